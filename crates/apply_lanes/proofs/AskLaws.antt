@@ -10,7 +10,7 @@ use Rattle.rights_protocol.specs.Crashes.{Record}
 use Rattle.rights_protocol.specs.Crashes.Record.{Asked}
 use Rattle.transfer_manager.specs.declared.peer_asks.PeerAsks.{PeerAsks}
 use Rattle.transfer_manager.specs.Managers.{ManagerValue, asks, sites as asked_sites, outstanding_ask, with_ask, with_asked}
-use Rattle.transfer_manager.specs.Plans.{Knowledge, Plans, open_asks, planned, need, rights_of, rights_before, above_zero, beside, of_book}
+use Rattle.transfer_manager.specs.Plans.{Knowledge, Plans, planned, need, rights_of, rights_before, above_zero, beside, of_book}
 use Rattle.request_queue.specs.Queues.{total_of}
 use Rattle.site_core.specs.Desks.{DeskValue}
 use Rattle.site_core.specs.Calls.{DeskPlansBeside}

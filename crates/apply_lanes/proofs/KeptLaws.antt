@@ -454,8 +454,9 @@ nothing_tallied d is i s r =
     }
 
 -- what a journal was handed does not matter to it
-pub any_handed : {id : DeskId} {k : KeptValue} (handed : List Record) → IsKept id k → IsKept id (record k { handed = handed })
-any_handed handed is = record {
+pub any_handed : {id : DeskId} {k : KeptValue} (handed : List Record) (lines : Option ℕ) → IsKept id k
+    → IsKept id (record k { handed = handed; lines = lines })
+any_handed handed lines is = record {
   site = is.site;
   same_me = is.same_me;
   same_sites = is.same_sites;
@@ -477,7 +478,7 @@ any_handed handed is = record {
 }
 
 pub opens : (id : DeskId) (d : DeskValue) (i s n r : SplitCounterValue) (bs : List Bool) (rs handed : List Record)
-    (keys : KeyBookValue)
+    (lines : Option ℕ) (keys : KeyBookValue)
     → id.site ≡ d.ledger.log.site
     → id.sites ≡ sites d.ledger.book
     → d.ledger.book.me ≡ d.ledger.log.site → sites d.ledger.book ≤ 16 → MatchesBook d.ledger.book 0 0 0 0
@@ -495,9 +496,10 @@ pub opens : (id : DeskId) (d : DeskValue) (i s n r : SplitCounterValue) (bs : Li
       clock_given = false;
       records = rs;
       handed = handed;
+      lines = lines;
       keys = keys;
     })
-opens id d i s n r bs rs handed keys site count me few matches_book hi hs hn hr places none unused empty = record {
+opens id d i s n r bs rs handed lines keys site count me few matches_book hi hs hn hr places none unused empty = record {
   site = sym site;
   same_me = me ∙ sym site;
   same_sites = sym count;

@@ -15,10 +15,12 @@ use Rattle.command_keys.specs.Keys.{no_keys}
 use Rattle.command_keys.specs.Books.{KeyBookValue}
 use Rattle.apply_lanes.specs.declared.names.TheConstants.{SEATS, APPLIERS}
 use Rattle.apply_lanes.specs.Names.{DeskId}
+use Rattle.apply_lanes.specs.Recorders.{CountsLines}
 use Rattle.thread_parts.specs.SplitCounters.{SplitCounterValue}
 
 -- the desk, its four counters, which sites have an applier of their logs, whether the clock's seat was given out, the
--- records of the desk's steps, those of them that a journal has or was handed, and the keys of commands
+-- records of the desk's steps, those of them that a journal has or was handed, how many lines it has with these, and the
+-- keys of commands
 pub record KeptValue : Type 0 where
   pub desk : DeskValue
   pub issued : SplitCounterValue
@@ -29,6 +31,7 @@ pub record KeptValue : Type 0 where
   pub clock_given : Bool
   pub records : List Record
   pub handed : List Record
+  pub lines : Option ℕ
   pub keys : KeyBookValue
 
 -- the keys of a site that takes none
@@ -38,6 +41,11 @@ no_book = record { keys = no_keys 0; is_recorded = false; unrecorded = []; room 
 abbrev pub book_of : Option KeyBookValue → KeyBookValue
 book_of (Some book) = book
 book_of None = no_book
+
+-- with a journal, so many lines were made for it in all: those that it was handed, one for each record that it was not,
+-- and one for each such key
+abbrev pub CountsAll : KeptValue → ℕ → Type 0
+CountsAll k made = CountsLines k.lines ((length k.records - length k.handed) + length k.keys.unrecorded) made
 
 -- ---- the invariant of the lock
 

@@ -15,7 +15,7 @@ ghost use Rattle.rights_protocol.specs.Crashes.Record.{Applied as IsApplied};
 ghost use Rattle.rights_protocol.specs.Invariant.{SiteInvariant};
 ghost use Rattle.rights_protocol.specs.Schedules.LocalChange.{Apply as Applies};
 ghost use Rattle.site_journal.specs.Batch.{records_in};
-ghost use Rattle.apply_lanes.specs.Recorders.{IsHanded};
+ghost use Rattle.apply_lanes.specs.Recorders.{IsHanded, with_lines};
 ghost use Rattle.apply_lanes.specs.Keeping.{IsJournaled, all_recorded};
 ghost use Rattle.apply_lanes.specs.Steps.{StepsBy, RecordsBy};
 ghost use Rattle.apply_lanes.specs.Names.{id_of, AreBlank, IsUnused};
@@ -79,6 +79,7 @@ impl<D: DeskNames, A: Allocator> Model for Kept<D, A> {
       clock_given = k.clock_given;
       records = k.records.items;
       handed = k.records.handed;
+      lines = k.records.lines;
       keys = book_of k.keys;
     } };
 
@@ -92,6 +93,7 @@ impl<D: DeskNames, A: Allocator> Model for Kept<D, A> {
       clock_given = k.clock_given;
       records = k.records.items;
       handed = k.records.handed;
+      lines = k.records.lines;
       keys = book_of k.keys;
     }) };
 }
@@ -126,7 +128,7 @@ pub(crate) enum Missing {
 pub(crate) type Admission<D> = (Shard<NumberOf<D>>, Shard<ReceivedBy<D>>);
 
 impl<D: DeskNames, A: Allocator + Copy> Kept<D, A> {
-    ghost use Rattle.apply_lanes.specs.Kepts.{KeptValue, IsKept, IsInBalance, book_of, raised};
+    ghost use Rattle.apply_lanes.specs.Kepts.{KeptValue, IsKept, IsInBalance, CountsAll, book_of, raised};
     ghost use Rattle.apply_lanes.specs.Stops.{missing_of};
 
     /// A new desk, with no seat given out. Without keys it takes none.
@@ -138,7 +140,7 @@ impl<D: DeskNames, A: Allocator + Copy> Kept<D, A> {
         ensures seats { seats_left result ≡ SEATS }
         ensures clock { result.clock_given ≡ false }
         ensures appliers { result.number.left ≡ APPLIERS }
-        ensures records { (result.records ≡ []) × (result.handed ≡ []) }
+        ensures records { (result.records ≡ []) × (result.handed ≡ []) × (result.lines ≡ None) }
         ensures keys { result.keys ≡ book_of keys }
     {
         // For the proof: what a desk with an empty log issued, spent and received.
@@ -200,11 +202,11 @@ impl<D: DeskNames, A: Allocator + Copy> Kept<D, A> {
         }
     }
 
-    /// Keeps a journal from now on, which has the records so far, and so many in all. The batch is where further ones
-    /// wait.
+    /// Keeps a journal from now on, which has the records so far, and so many lines in all. The batch is where further
+    /// ones wait.
     pub fn keep_journal(&mut self, alloc: Global, batch: Batch, made: u64)
         requires { records_in batch ≡ [] }
-        ensures handed { self.new ≡ record self.old { handed = self.old.records; keys = self.new.keys } }
+        ensures handed { self.new ≡ record self.old { handed = self.old.records; lines = Some made; keys = self.new.keys } }
         ensures keys { IsJournaled self.old.keys self.new.keys }
     {
         self.records.keep(alloc, batch, made);
@@ -219,8 +221,12 @@ impl<D: DeskNames, A: Allocator + Copy> Kept<D, A> {
         requires { records_in empty ≡ [] }
         ensures some { IfOk result (λ found. IfSome found (λ batch.
             IsHanded self.old.handed self.old.records self.old.keys.unrecorded (records_in batch)
-            × (self.new ≡ record self.old { handed = self.old.records; keys = all_recorded self.old.keys self.new.keys.room }))) }
-        ensures none { result ≡ Ok None → self.new ≡ self.old }
+            × (self.new ≡ record self.old {
+              handed = self.old.records;
+              lines = with_lines self.old.lines (records_in batch);
+              keys = all_recorded self.old.keys self.new.keys.room;
+            }))) }
+        ensures none { result ≡ Ok None → (self.new ≡ self.old) × (self.old.lines ≡ None) }
         ensures err { OnErr result (self.new ≡ self.old) }
     {
         let batch = self.records.hand_over(unrecorded(&self.keys), empty)?;
@@ -232,8 +238,11 @@ impl<D: DeskNames, A: Allocator + Copy> Kept<D, A> {
         Ok(batch)
     }
 
-    /// How many records were made for the journal in all.
-    pub fn records_made(&self) -> u64 {
+    /// How many lines were made for the journal in all, those that wait among them. Once one is lost, more than it ever
+    /// gets.
+    pub fn records_made(&self) -> u64
+        ensures { CountsAll self.now result }
+    {
         let keys = unrecorded(&self.keys).len();
         self.records.made().saturating_add(keys as u64)
     }

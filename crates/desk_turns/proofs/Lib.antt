@@ -1,1 +1,5 @@
 pub mod ApplyLaws
+pub mod KeyTurnLaws
+pub mod RecordTexts
+pub mod JournalLineLaws
+pub mod NoteLaws

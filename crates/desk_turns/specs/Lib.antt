@@ -3,3 +3,6 @@ pub mod Turns
 pub mod Journaling
 pub mod Seated
 pub mod Applying
+pub mod KeyTurns
+pub mod JournalLines
+pub mod Noting

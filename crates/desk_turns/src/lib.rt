@@ -3,10 +3,12 @@
 //! in this form only cannot take its lock in another way, except to read.
 #![tactic(auto)]
 
+mod laws;
 mod seats;
 mod turns;
 mod work;
 
+pub use laws::{appliers_take_key_turns, handed_reads_back, work_is_key_turn};
 pub use seats::{Seated, Seats};
 pub use turns::{Look, TurnDesk, Turns};
 pub use work::{

@@ -1,8 +1,9 @@
 //! The desk that threads share, and the turns that they take there. `Turns::take` is the one function that lends the
 //! desk to change it.
-ghost use Rattle.std.specs.Prelude.{◌≡◌, ℕ, [], false, Ok, Err, IfOk, OnOk, IfErr};
+ghost use Rattle.std.specs.Prelude.{◌≡◌, ℕ, [], true, false, is_some, Ok, Err, IfOk, IfSome, OnOk, IfErr};
 ghost use Rattle.apply_lanes.specs.Names.{id_of, AreBlank, IsUnused};
 ghost use Rattle.apply_lanes.specs.Kepts.{told_nothing};
+ghost use Rattle.desk_turns.specs.Noting.{AreNoted, NotesAll};
 ghost use Rattle.desk_turns.specs.Turns.{TakesTurn};
 ghost use Rattle.desk_turns.specs.Applying.{AppliesBatch, AppliesAll, TakesAgain};
 
@@ -12,7 +13,7 @@ use apply_lanes::{
     StepError, pause,
 };
 use command_keys::KeyBook;
-use durability::Durability;
+use durability::{Counts, Durability};
 use histories::History;
 use rights_types::{Entry, SiteId};
 use site_core::Desk;
@@ -42,6 +43,8 @@ pub struct Look<'a, D: DeskNames> {
 pub struct Turns<D: DeskNames> {
     desk: Arc<TurnDesk<D>>,
     states: History<Kept<D>>,
+    /// With a journal, the counts before and after each turn noted how many records were made.
+    notes: History<Counts>,
     /// Whether the turns make room for records, and so wait for nobody that does.
     makes_room: bool,
 }
@@ -53,6 +56,13 @@ impl<D: DeskNames> Model for Turns<D> {
     ghost Value = { List KeptValue };
 
     ghost view = { λ turns. turns.states.items };
+
+    ghost use Rattle.std.specs.Prelude.{◌≡◌, true, is_some};
+    ghost use Rattle.std.specs.Arc.{arc_value};
+    ghost use Rattle.desk_turns.specs.Noting.{AreNoted};
+
+    ghost invariant = { λ turns. is_some (arc_value turns.desk).durability ≡ true
+        → AreNoted turns.states.items turns.notes.items };
 }
 
 impl<D: DeskNames> TurnDesk<D> {
@@ -108,11 +118,13 @@ impl<D: DeskNames> TurnDesk<D> {
         }
     }
 
-    /// Notes how many records the desk has made, before its lock is given up.
+    /// Notes how many records the desk has made, before its lock is given up. The list gets the counts before and after.
     #[inline(always)]
-    fn note_made<R: Wait>(&self, rt: &R, kept: &Kept<D>) {
+    fn note<R: Wait>(&self, rt: &R, kept: &Kept<D>, notes: &mut History<Counts>)
+        ensures { is_some self.now.durability ≡ true → NotesAll kept.now notes.old.items notes.new.items }
+    {
         if let Some(durability) = &self.durability {
-            durability.note_made(rt, kept.records_made());
+            durability.note(rt, kept.records_made(), notes);
         }
     }
 
@@ -145,7 +157,7 @@ impl<D: DeskNames> TurnDesk<D> {
     /// Waits until the journal has the records that were made by now. `false` if there is none that appends.
     fn has_journal<R: Wait>(&self, rt: &R) -> bool {
         match &self.durability {
-            Some(durability) => durability.wait_for_all(rt),
+            Some(durability) => durability.pass(rt, &mut History::new()),
             None => false,
         }
     }
@@ -171,6 +183,7 @@ impl<D: DeskNames> Turns<D> {
         Turns {
             desk,
             states: History::new(),
+            notes: History::new(),
             makes_room: false,
         }
     }
@@ -182,11 +195,13 @@ impl<D: DeskNames> Turns<D> {
         Turns {
             desk,
             states: History::new(),
+            notes: History::new(),
             makes_room: true,
         }
     }
 
     /// Takes one turn: waits until no other thread holds the desk, and does this work under that one hold.
+    #[tactic(auto, using(crate::proofs::NoteLaws::notes_turn))]
     pub fn take<R: Wait, W: Work<D>>(&mut self, rt: &R, work: W, with: &mut W::With) -> W::Told
         requires { W.may work }
         ensures { TakesTurn D.id (λ old new. W.does work with.old old result with.new new) self.old self.new }
@@ -199,8 +214,20 @@ impl<D: DeskNames> Turns<D> {
         let told = work.work(kept, with);
         let _ = kept.desk();
         self.states = states.and(kept);
-        self.desk.note_made(rt, kept);
+        self.desk.note(rt, kept, &mut self.notes);
         told
+    }
+
+    /// What the turns noted of the journal's records, each before it gave up the desk: the counts before and after. `None`
+    /// without a journal.
+    pub fn notes(&self) -> Option<&History<Counts>>
+        ensures { IfSome result (λ notes. AreNoted self.now notes.now.items) }
+    {
+        if self.desk.durability.is_some() {
+            Some(&self.notes)
+        } else {
+            None
+        }
     }
 
     /// Waits for an entry of this applier's lane, and then applies or drops all that wait there, in one turn. Returns

@@ -170,7 +170,7 @@ pub struct KeepJournal {
     pub alloc: Global,
     /// Where further records wait.
     pub batch: Batch,
-    /// How many records the journal has.
+    /// How many lines the journal has.
     pub made: u64,
 }
 
@@ -185,14 +185,14 @@ impl<D: DeskNames> Work<D> for KeepJournal {
 
     ghost may = { λ work. records_in work.batch ≡ [] };
 
-    ghost does = { λ _ _ old _ _ new. KeepsJournal old new };
+    ghost does = { λ work _ old _ _ new. KeepsJournal work.made old new };
 
     fn work(self, kept: &mut Kept<D>, _with: &mut ()) {
         kept.keep_journal(self.alloc, self.batch, self.made);
     }
 }
 
-/// The lines of records that a journal is handed, and how many records were made by then.
+/// The lines that a journal is handed, and how many were made by then.
 #[derive(Drop)]
 pub struct HandedOver {
     pub batch: Batch,

@@ -1,7 +1,7 @@
 //! What the lock of a durability protects.
-ghost use Rattle.std.specs.Prelude.{◌≡◌, max};
-ghost use Rattle.durability.specs.Counts.{all_durable, raised, with_course, ended, closed, is_awaited, is_open, is_shut};
-ghost use Rattle.durability.specs.Counts.{IsProgress, next_batch, next_of};
+ghost use Rattle.std.specs.Prelude.{◌≡◌};
+ghost use Rattle.durability.specs.Counts.{all_durable, begun, noted, asked, raised, with_course, ended, closed};
+ghost use Rattle.durability.specs.Counts.{IsProgress, is_awaited, is_open, is_shut, next_batch, next_of};
 ghost use Rattle.durability.specs.declared.counts.Course.TheVariants.{Runs, Failed};
 
 use std::marker::Model;
@@ -46,9 +46,10 @@ pub struct Progress {
     pub synced: u64,
 }
 
-/// How many records were made, and how many of them are durable.
+/// How many records were made, and how many of them are durable: what the lock of a durability protects. Other crates see
+/// it in lists alone.
 #[derive(Drop)]
-pub(crate) struct Counts {
+pub struct Counts {
     made: u64,
     /// How many of them an exit waits for.
     wanted: u64,
@@ -95,6 +96,15 @@ impl Counts {
         }
     }
 
+    /// The journal has so many records, all of them durable, in so many bytes, since this time.
+    pub(crate) fn begin(&mut self, records: u64, bytes: u64, time: u64)
+        ensures { self.new ≡ begun records bytes time self.old }
+    {
+        let made = self.made.max(records);
+        *self = Counts::new(records, bytes, time);
+        self.made = made;
+    }
+
     pub(crate) fn progress(&self) -> Progress
         ensures { IsProgress self.now result }
     {
@@ -114,7 +124,7 @@ impl Counts {
 
     /// So many records were made in all. Returns whether the thread that appends was parked, and is to be woken.
     pub(crate) fn note_made(&mut self, made: u64) -> bool
-        ensures { self.new ≡ record self.old { made = max self.old.made made } }
+        ensures { self.new ≡ noted made self.old }
     {
         self.made = self.made.max(made);
         self.durable < self.made && mem::replace(&mut self.is_parked, false)
@@ -134,7 +144,7 @@ impl Counts {
     /// Asks for all records that were made: returns their mark, which is how many they are.
     pub(crate) fn ask(&mut self) -> u64
         ensures mark { result ≡ self.old.made }
-        ensures asks { self.new ≡ record self.old { wanted = self.old.made } }
+        ensures asks { self.new ≡ asked self.old }
     {
         self.wanted = self.made;
         self.made

@@ -5,9 +5,11 @@
 mod append;
 mod counts;
 mod exit_writer;
+mod laws;
 mod shared;
 
 pub use append::append_batch;
-pub use counts::{Next, Progress};
+pub use counts::{Counts, Next, Progress};
 pub use exit_writer::ExitWriter;
+pub use laws::made_only_rises;
 pub use shared::{Durability, Held, Raiser};

@@ -1,8 +1,8 @@
 //! What the threads of a site share of its journal.
-ghost use Rattle.std.specs.Prelude.{◌≡◌, [], true, Some};
-ghost use Rattle.durability.specs.Counts.{IsProgressNow, all_durable, raised, with_course, closed, is_open, next_of};
+ghost use Rattle.std.specs.Prelude.{◌≡◌, ◌↔◌, [], true, Some, IsTrue};
+ghost use Rattle.durability.specs.Counts.{IsProgress, IsProgressNow, begun, raised, with_course, ended, closed, is_open, is_shut, next_of};
 ghost use Rattle.durability.specs.declared.counts.Course.TheVariants.{Failed};
-ghost use Rattle.durability.specs.Holds.{Waited, Begins, Raises, Fails, Closes, Told};
+ghost use Rattle.durability.specs.Holds.{Waited, Notes, Begins, Raises, Fails, Ends, Closes, Sees, Told};
 
 use crate::counts::{Counts, Course, Next, Progress};
 use histories::History;
@@ -57,21 +57,23 @@ impl Durability {
     }
 
     /// So many records were made in all. For who has just made some, under the lock under which they are made. It wakes
-    /// no thread but one that found none to append for a second.
-    pub fn note_made<R: Wait>(&self, rt: &R, made: u64) {
-        let is_due = self.counts.lock(rt).note_made(made);
+    /// no thread but one that found none to append for a second. The list gets the counts before and after.
+    pub fn note<R: Wait>(&self, rt: &R, made: u64, notes: &mut History<Counts>)
+        ensures { Notes made notes.old.items notes.new.items }
+    {
+        let mut counts = self.counts.lock(rt);
+        let begun = notes.and(&counts);
+        let is_due = counts.note_made(made);
+        *notes = begun.and(&counts);
+        drop(counts);
         if is_due {
             self.asked.notify_one();
         }
     }
 
     /// Waits until all records are durable that were made by now. `false` if they will not be, since the journal has
-    /// ended, or if it has failed: then nothing may be told any more.
-    pub fn wait_for_all<R: Wait>(&self, rt: &R) -> bool {
-        self.pass(rt, &mut History::new())
-    }
-
-    /// The same. The list gets the counts when the wait began, and when it ended.
+    /// ended, or if it has failed: then nothing may be told any more. The list is for clauses, here and below: it gets
+    /// the counts when the wait began, and when it ended.
     pub fn pass<'a, R: Wait>(&'a self, rt: &R, waits: &mut History<Held<'a>>) -> bool
         ensures { Waited waits.old.items result waits.new.items }
     {
@@ -130,15 +132,27 @@ impl Durability {
             .wait_while(rt, counts, |counts| counts.is_parked());
     }
 
-    /// The journal has failed. No exit opens any more, for good.
-    pub fn fail<R: Wait>(&self, rt: &R) {
-        self.counts.lock(rt).fail();
+    /// The journal has failed. No exit opens any more, for good. The list gets the counts before and after.
+    pub fn fail<'a, R: Wait>(&'a self, rt: &R, holds: &mut History<Held<'a>>)
+        ensures { Fails holds.old.items holds.new.items }
+    {
+        let mut held = self.hold(rt);
+        let begun = holds.and(&held);
+        held.fail();
+        *holds = begun.and(&held);
+        drop(held);
         self.wake_all();
     }
 
-    /// The thread that appends is to append what is left, and to end.
-    pub fn end<R: Wait>(&self, rt: &R) {
-        self.counts.lock(rt).end();
+    /// The thread that appends is to append what is left, and to end. The list gets the counts before and after.
+    pub fn end<'a, R: Wait>(&'a self, rt: &R, holds: &mut History<Held<'a>>)
+        ensures { Ends holds.old.items holds.new.items }
+    {
+        let mut held = self.hold(rt);
+        let begun = holds.and(&held);
+        held.end();
+        *holds = begun.and(&held);
+        drop(held);
         self.wake_all();
     }
 
@@ -147,20 +161,32 @@ impl Durability {
         self.raised.notify_all();
     }
 
-    /// Whether no exit opens any more, since the records that were made will not be durable.
-    pub fn is_shut<R: Wait>(&self, rt: &R) -> bool {
-        self.counts.lock(rt).is_shut()
-    }
-
-    pub fn has_failed<R: Wait>(&self, rt: &R) -> bool {
-        matches!(self.counts.lock(rt).course(), Course::Failed)
-    }
-
-    /// How far the journal is.
-    pub fn progress<R: Wait>(&self, rt: &R) -> Progress
-        ensures { IsProgressNow result }
+    /// Whether no exit opens any more, since the records that were made will not be durable. The list gets the counts.
+    pub fn is_shut<'a, R: Wait>(&'a self, rt: &R, holds: &mut History<Held<'a>>) -> bool
+        ensures { Sees (λ counts. result ≡ is_shut counts) holds.old.items holds.new.items }
     {
-        self.counts.lock(rt).progress()
+        let held = self.hold(rt);
+        *holds = holds.and(&held);
+        held.is_shut()
+    }
+
+    /// The list gets the counts.
+    pub fn has_failed<'a, R: Wait>(&'a self, rt: &R, holds: &mut History<Held<'a>>) -> bool
+        ensures { Sees (λ counts. IsTrue result ↔ (counts.course ≡ Failed)) holds.old.items holds.new.items }
+    {
+        let held = self.hold(rt);
+        *holds = holds.and(&held);
+        held.has_failed()
+    }
+
+    /// How far the journal is. The list gets the counts.
+    pub fn progress<'a, R: Wait>(&'a self, rt: &R, holds: &mut History<Held<'a>>) -> Progress
+        ensures sees { Sees (λ counts. IsProgress counts result) holds.old.items holds.new.items }
+        ensures now { IsProgressNow result }
+    {
+        let held = self.hold(rt);
+        *holds = holds.and(&held);
+        held.progress()
     }
 
     /// For the one thread that appends.
@@ -191,6 +217,24 @@ impl Held<'_> {
         self.counts.is_open(mark)
     }
 
+    fn is_shut(&self) -> bool
+        ensures { result ≡ is_shut self.now }
+    {
+        self.counts.is_shut()
+    }
+
+    fn has_failed(&self) -> bool
+        ensures { IsTrue result ↔ (self.now.course ≡ Failed) }
+    {
+        matches!(self.counts.course(), Course::Failed)
+    }
+
+    fn progress(&self) -> Progress
+        ensures { IsProgress self.now result }
+    {
+        self.counts.progress()
+    }
+
     fn next(&self) -> Option<Next>
         ensures { result ≡ next_of true self.now }
     {
@@ -198,9 +242,9 @@ impl Held<'_> {
     }
 
     fn begin(&mut self, records: u64, bytes: u64, time: u64)
-        ensures { self.new ≡ all_durable records bytes time }
+        ensures { self.new ≡ begun records bytes time self.old }
     {
-        *self.counts = Counts::new(records, bytes, time);
+        self.counts.begin(records, bytes, time);
     }
 
     fn raise(&mut self, durable: u64, bytes: u64, time: u64)
@@ -213,6 +257,12 @@ impl Held<'_> {
         ensures { self.new ≡ with_course Failed self.old }
     {
         self.counts.fail();
+    }
+
+    fn end(&mut self)
+        ensures { self.new ≡ with_course (ended self.old.course) self.old }
+    {
+        self.counts.end();
     }
 
     fn close(&mut self)
@@ -243,7 +293,7 @@ impl<'a> Model for Raiser<'a> {
 
 impl<'a> Raiser<'a> {
     /// Begins with a journal that has so many records in so many bytes, all of them durable since this time in
-    /// milliseconds.
+    /// milliseconds. More may have been noted before.
     pub fn begin<R: Wait>(&mut self, rt: &R, records: u64, bytes: u64, time: u64)
         ensures { Begins records bytes time self.old self.new }
     {
@@ -280,12 +330,7 @@ impl<'a> Raiser<'a> {
     pub fn fail<R: Wait>(&mut self, rt: &R)
         ensures { Fails self.old self.new }
     {
-        let mut held = self.durability.hold(rt);
-        let begun = self.holds.and(&held);
-        held.fail();
-        self.holds = begun.and(&held);
-        drop(held);
-        self.durability.wake_all();
+        self.durability.fail(rt, &mut self.holds);
     }
 
     /// Nothing is appended any more. An exit that waits for more than is durable does not open.

@@ -1,0 +1,2 @@
+mod ImageLaws
+mod ChangeLaws

@@ -3,6 +3,7 @@
 #![tactic(auto)]
 
 mod call;
+mod change;
 mod device;
 mod memory;
 mod record;

@@ -15,7 +15,7 @@ use Rattle.site_records.specs.KeyRecords.{effect_of as effect_of_moves, keys_in,
 use Rattle.apply_lanes.specs.Names.{DeskId}
 use Rattle.apply_lanes.specs.Kepts.{KeptValue, SeatValue, IsKept}
 use Rattle.apply_lanes.specs.Keeping.{all_recorded}
-use Rattle.apply_lanes.specs.Recorders.{IsHanded}
+use Rattle.apply_lanes.specs.Recorders.{IsHanded, with_lines}
 use Rattle.site_words.specs.declared.commands.DeskCommand.{DeskCommand}
 use Rattle.site_node.specs.declared.reply.Reply.{Reply}
 use Rattle.site_node.specs.declared.reply.Reply.TheVariants.{KeyReused}
@@ -43,7 +43,11 @@ pub record ActsUnder (old : KeptValue) (key : List ℕ) (command : DeskCommand) 
 
 pub record HandsOverAll (old : KeptValue) (lines : List (List ℕ)) (new : KeptValue) : Type 0 where
   pub handed : IsHanded old.handed old.records old.keys.unrecorded lines
-  pub rest : new ≡ record old { handed = old.records; keys = all_recorded old.keys new.keys.room }
+  pub rest : new ≡ record old {
+    handed = old.records;
+    lines = with_lines old.lines lines;
+    keys = all_recorded old.keys new.keys.room;
+  }
 
 -- no key changed, and no entry of the log
 pub record LeavesKeys (old new : KeptValue) : Type 0 where

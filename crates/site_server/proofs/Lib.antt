@@ -8,3 +8,8 @@ mod ListingLaws
 mod ConfirmedLaws
 mod EndingLaws
 mod StartLaws
+mod AloneLaws
+mod StartKeyLaws
+mod KeyTypeLaws
+mod AskLaws
+mod DiskLaws

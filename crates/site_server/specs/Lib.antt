@@ -10,3 +10,4 @@ pub mod Conversations
 pub mod Requests
 pub mod Ending
 pub mod Starting
+pub mod KeysOnDisk

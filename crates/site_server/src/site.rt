@@ -47,6 +47,7 @@ use apply_lanes::{Blanks, DeskNames};
 use command_keys::{KeyBook, Keys};
 use desk_turns::Seats;
 use durability::{Durability, ExitWriter};
+use histories::History;
 use journal_file::{FileDevice, Unknown};
 use line_streams::ConversationError;
 use log_lines::LogWriter;
@@ -295,10 +296,17 @@ fn run_desk<D: DeskNames + Send + Sync, R: SiteRuntime, I: Read + Drop, W: Write
     Ok(ended?)
 }
 
+/// What waits for the journal is to be appended, and then no more.
+fn end_journal<R: Wait>(rt: &R, site: &SiteSockets) {
+    if let Some(durability) = site.durability() {
+        durability.end(rt, &mut History::new());
+    }
+}
+
 /// Whether the site ended since its journal failed, which was logged.
 fn has_lost_journal<R: Wait>(rt: &R, site: &SiteSockets) -> bool {
     match site.durability() {
-        Some(durability) => site.has_failed() && durability.has_failed(rt),
+        Some(durability) => site.has_failed() && durability.has_failed(rt, &mut History::new()),
         None => false,
     }
 }
@@ -347,9 +355,7 @@ fn run_threads<D: DeskNames + Send + Sync, R: SiteRuntime, I: Read + Drop, W: Wr
             tick_last(rt, site, seats);
         }
         site.shut_down(rt);
-        if let Some(durability) = site.durability() {
-            durability.end(rt);
-        }
+        end_journal(rt, site);
         ended
     })
 }

@@ -11,6 +11,7 @@ use crate::peer_writer::PeerWriter;
 use crate::shutdown_handle::ShutdownHandle;
 use crate::stopwatch::Stopwatch;
 use durability::{Durability, ExitWriter};
+use histories::History;
 use log_lines::LogQueue;
 use peer_links::{OUTBOX_LINES, Outbox, OutboxLines};
 use rights_types::{MAX_HELD, OutOfMemory, SiteId};
@@ -108,7 +109,7 @@ impl PeerState {
     /// Whether nothing may be sent to it any more, since the records that the site made will not be durable.
     pub(crate) fn is_shut<R: Wait>(&self, rt: &R) -> bool {
         match &self.durability {
-            Some(durability) => durability.is_shut(rt),
+            Some(durability) => durability.is_shut(rt, &mut History::new()),
             None => false,
         }
     }

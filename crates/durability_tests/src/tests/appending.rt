@@ -2,6 +2,7 @@
 
 use crate::tests::exits::progress;
 use durability::{Durability, Progress, append_batch};
+use histories::History;
 use journal_device::{Limits, Memory};
 use site_journal::{Batch, Journal, TakeRecords, open};
 use std::alloc::Global;
@@ -45,12 +46,12 @@ fn appended<R: Wait>(rt: &R, alloc: Global, calls: Option<u64>) -> Option<(bool,
     let mut batch = batch_of_one(alloc)?;
     let mut raiser = durability.raiser();
     raiser.begin(rt, 2, 50, 4);
-    durability.note_made(rt, 3);
+    durability.note(rt, 3, &mut History::new());
     let is_done = append_batch(rt, &mut journal, &mut batch, 3, 9, &mut raiser).is_ok();
     Some((
         is_done,
-        durability.wait_for_all(rt),
-        durability.progress(rt),
+        durability.pass(rt, &mut History::new()),
+        durability.progress(rt, &mut History::new()),
     ))
 }
 

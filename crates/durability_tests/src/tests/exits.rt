@@ -2,6 +2,7 @@
 //! for good.
 
 use durability::{Durability, ExitWriter, Next, Progress};
+use histories::History;
 use std::alloc::Global;
 use std::io::Write;
 use std::process::Abort;
@@ -39,7 +40,7 @@ fn make_act<R: Wait + Clock>(rt: &R, durability: &Durability, what: Act) -> bool
     thread::sleep(rt, Duration::from_millis(20));
     match what {
         Act::Raise(count) => raiser.raise(rt, count, 60, 5),
-        Act::Fail => durability.fail(rt),
+        Act::Fail => durability.fail(rt, &mut History::new()),
         Act::Close => raiser.close(rt),
         Act::RaiseAndClose => {
             raiser.raise(rt, 2, 60, 5);
@@ -77,7 +78,7 @@ fn writes<R: Wait>(rt: &R, alloc: Global, durability: Option<&Durability>) -> bo
 /// Whether an exit that waits opens when another thread does this.
 fn opens<R: Wait + Clock + Threads + Sync>(rt: &R, alloc: Global, what: Act) -> Option<bool> {
     let durability = Durability::new();
-    durability.note_made(rt, 2);
+    durability.note(rt, 2, &mut History::new());
     let (is_open, has_acted) = thread::join(
         rt,
         || writes(rt, alloc, Some(&durability)),
@@ -107,17 +108,27 @@ pub(crate) fn progress(records: u64, durable: u64, bytes: u64, synced: u64) -> P
 #[test]
 fn no_exit_opens_after_a_failure(rt: HostRuntime) {
     let durability = Durability::new();
-    assert!(rt; durability.wait_for_all(&rt) && !durability.is_shut(&rt));
-    assert_eq!(rt; durability.progress(&rt), progress(0, 0, 0, 0));
-    durability.note_made(&rt, 3);
-    durability.raiser().raise(&rt, 3, 90, 7);
-    assert!(rt; durability.wait_for_all(&rt));
-    durability.note_made(&rt, 2);
-    assert_eq!(rt; durability.progress(&rt), progress(3, 3, 90, 7));
-    durability.fail(&rt);
-    durability.end(&rt);
     assert!(rt;
-        !durability.wait_for_all(&rt) && durability.has_failed(&rt) && durability.is_shut(&rt)
+        durability.pass(&rt, &mut History::new()) && !durability.is_shut(&rt, &mut History::new())
+    );
+    assert_eq!(rt;
+        durability.progress(&rt, &mut History::new()),
+        progress(0, 0, 0, 0)
+    );
+    durability.note(&rt, 3, &mut History::new());
+    durability.raiser().raise(&rt, 3, 90, 7);
+    assert!(rt; durability.pass(&rt, &mut History::new()));
+    durability.note(&rt, 2, &mut History::new());
+    assert_eq!(rt;
+        durability.progress(&rt, &mut History::new()),
+        progress(3, 3, 90, 7)
+    );
+    durability.fail(&rt, &mut History::new());
+    durability.end(&rt, &mut History::new());
+    assert!(rt;
+        !durability.pass(&rt, &mut History::new())
+            && durability.has_failed(&rt, &mut History::new())
+            && durability.is_shut(&rt, &mut History::new())
     );
     assert!(rt; durability.raiser().next(&rt) == Next::Stop);
 }
@@ -127,14 +138,17 @@ fn no_exit_opens_after_a_failure(rt: HostRuntime) {
 fn the_end_and_no_journal(rt: HostRuntime) {
     assert!(rt; writes(&rt, rt.alloc(), None));
     let durability = Durability::new();
-    durability.note_made(&rt, 1);
+    durability.note(&rt, 1, &mut History::new());
     assert!(rt; durability.raiser().next(&rt) == Next::Due);
-    durability.end(&rt);
+    durability.end(&rt, &mut History::new());
     let mut raiser = durability.raiser();
-    assert!(rt; raiser.next(&rt) == Next::End && !durability.is_shut(&rt));
+    assert!(rt; raiser.next(&rt) == Next::End && !durability.is_shut(&rt, &mut History::new()));
     raiser.close(&rt);
-    assert!(rt; raiser.next(&rt) == Next::Stop && durability.is_shut(&rt));
-    assert!(rt; !durability.wait_for_all(&rt) && !durability.has_failed(&rt));
+    assert!(rt; raiser.next(&rt) == Next::Stop && durability.is_shut(&rt, &mut History::new()));
+    assert!(rt;
+        !durability.pass(&rt, &mut History::new())
+            && !durability.has_failed(&rt, &mut History::new())
+    );
 }
 
 /// What the thread that appends is to do, if it waits for so long until a record is made, for which no exit waits.
@@ -145,7 +159,7 @@ fn next_after<R: Wait + Clock + Threads + Sync>(rt: &R, milliseconds: u64) -> Ne
         || durability.raiser().next(rt),
         || {
             thread::sleep(rt, Duration::from_millis(milliseconds));
-            durability.note_made(rt, 1);
+            durability.note(rt, 1, &mut History::new());
         },
     );
     next

@@ -40,7 +40,7 @@ invariant_of-self-2 g c =
     c.number.ensures.range.0 c.requires.site c.requires.other unclosed live next c.requires.own c.own.ensures.valid in
     let has = keeps_lists id _ c.apply.new.self (Apply c.args.origin c.args.entry.now) c.note.new.self.items i steps
     c.note.ensures.items in
-    any_handed c.note.new.self.handed (kept_apply _ _ c.apply.new.self _ _ _ _ _ i applies keeps c.number.ensures.range.0 c.requires.site next
+    any_handed c.note.new.self.handed c.note.new.self.lines (kept_apply _ _ c.apply.new.self _ _ _ _ _ i applies keeps c.number.ensures.range.0 c.requires.site next
     c.own.ensures.valid has
     (subst (λ n. c.add.new.self ≡ raised c.self.inside.number n) count c.add.ensures.sum)
     (subst (λ n. c.add-2.new.self ≡ raised c.self.inside.received n) gift c.add-2.ensures.sum))

@@ -6,7 +6,7 @@ use Rattle.apply_lanes.proofs.kept.Kept.close.Goals as goal
 
 pub invariant_of-self-2 : goal.invariant_of-self-2
 invariant_of-self-2 g c =
-    any_handed c.note.new.self.handed (kept_closed _ _ c.close.new.self c.args.heir _ c.self.invariant c.in_ok-number.ensures.ok.entry
+    any_handed c.note.new.self.handed c.note.new.self.lines (kept_closed _ _ c.close.new.self c.args.heir _ c.self.invariant c.in_ok-number.ensures.ok.entry
     c.in_ok-number.ensures.keeps c.note.ensures.items)
 
 pub returns-clause-step : goal.returns-clause-step

@@ -10,7 +10,7 @@ use Rattle.apply_lanes.proofs.kept.Kept.give_back.Goals as goal
 
 pub invariant_of-self-2 : goal.invariant_of-self-2
 invariant_of-self-2 g c =
-    any_handed c.note.new.self.handed (kept_written _ _ c.give_back.new.self _ _ _ _ _ _ c.self.invariant c.in_ok-number.ensures.ok.entry
+    any_handed c.note.new.self.handed c.note.new.self.lines (kept_written _ _ c.give_back.new.self _ _ _ _ _ _ c.self.invariant c.in_ok-number.ensures.ok.entry
     c.in_ok-number.ensures.keeps (issued-give _ _) (spent-give _ _) (raised_none _) (raised_none _) c.note.ensures.items)
 
 pub returns-clause-step : goal.returns-clause-step

@@ -11,7 +11,7 @@ use Rattle.apply_lanes.proofs.kept.Kept.issue.Goals as goal
 
 pub invariant_of-self-2 : goal.invariant_of-self-2
 invariant_of-self-2 g c =
-    any_handed c.note.new.self.handed (kept_written _ _ c.issue.new.self _ _ _ _ _ _ c.self.invariant c.in_ok-number.ensures.ok.entry
+    any_handed c.note.new.self.handed c.note.new.self.lines (kept_written _ _ c.issue.new.self _ _ _ _ _ _ c.self.invariant c.in_ok-number.ensures.ok.entry
     c.in_ok-number.ensures.keeps (issued-issue _) (spent-issue _) c.add.ensures.sum (raised_none _) c.note.ensures.items)
 
 pub returns-clause-counters : goal.returns-clause-counters

@@ -5,7 +5,7 @@ use Rattle.apply_lanes.proofs.StepLaws.{seen, steps_answer}
 use Rattle.apply_lanes.proofs.kept.Kept.on_ask.Goals as goal
 
 pub invariant_of-self-2 : goal.invariant_of-self-2
-invariant_of-self-2 g c = any_handed c.note.new.self.handed (kept_answer _ _ c.on_ask.new.self c.args.ask.now _ _ _ c.self.invariant
+invariant_of-self-2 g c = any_handed c.note.new.self.handed c.note.new.self.lines (kept_answer _ _ c.on_ask.new.self c.args.ask.now _ _ _ c.self.invariant
     c.in_ok-reply.ensures.ok c.in_ok-reply.ensures.keeps c.note.ensures.items)
 
 pub returns-clause-step : goal.returns-clause-step

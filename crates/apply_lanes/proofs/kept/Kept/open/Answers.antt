@@ -9,7 +9,7 @@ invariant_of-result g c =
     let received = sym c.received.ensures.value ∙ c.received.ensures.sum in
     let issued = sym c.issued.ensures.booked ∙ c.issued.ensures.value in
     let spent = sym c.spent.ensures.booked ∙ c.spent.ensures.value in
-    opens _ c.args.desk _ _ _ _ _ _ _ _ (ap (λ (i : DeskId). i.site) c.requires.id)
+    opens _ c.args.desk _ _ _ _ _ _ _ _ _ (ap (λ (i : DeskId). i.site) c.requires.id)
     (ap (λ (i : DeskId). i.sites) c.requires.id)
     (sym c.site.ensures.booked
     ∙ c.site.ensures.value) (subst (λ n. n ≤ 16) c.sites.ensures.value c.sites.ensures.range.1)

@@ -16,12 +16,12 @@ returns-clause-step g c =
 
 pub invariant_of-self : goal.invariant_of-self
 invariant_of-self g c =
-    any_handed c.note.new.self.handed (kept_plan _ _ c.plan_beside-count.new.self (has_site c.args.silent.now) _ c.self.invariant
+    any_handed c.note.new.self.handed c.note.new.self.lines (kept_plan _ _ c.plan_beside-count.new.self (has_site c.args.silent.now) _ c.self.invariant
     (ap (λ (d : DeskValue). d.ledger) c.plan_beside-count.ensures.rest) (plan_adds _ c.plan_beside-count.new.self (has_site c.args.silent.now) _ (has_site c.asked_sites-before.result) _ _ c.plan_beside-count.ensures c.asked_sites-before.ensures
     c.note.ensures.items))
 
 pub returns-clause-rest : goal.returns-clause-rest
 returns-clause-rest g c =
-    planned_is _ c.args.self.now c.plan_beside-count.new.self (has_site c.args.silent.now) c.note.new.self.items c.note.new.self.handed c.self.view_is
+    planned_is _ c.args.self.now c.plan_beside-count.new.self (has_site c.args.silent.now) c.note.new.self.items c.note.new.self.handed c.note.new.self.lines c.self.view_is
     (plan_adds _ c.plan_beside-count.new.self (has_site c.args.silent.now) _ (has_site c.asked_sites-before.result) _ _ c.plan_beside-count.ensures c.asked_sites-before.ensures
-    c.note.ensures.items) c.note.ensures.handed
+    c.note.ensures.items) c.note.ensures.handed c.note.ensures.lines

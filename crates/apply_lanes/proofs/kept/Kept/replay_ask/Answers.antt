@@ -10,7 +10,7 @@ use Rattle.apply_lanes.proofs.kept.Kept.replay_ask.Goals as goal
 pub invariant_of-self-2 : goal.invariant_of-self-2
 invariant_of-self-2 g c =
     let asked = c.in_ok-replay_ask.ensures in
-    any_handed c.note.new.self.handed (kept_asked _ _ c.replay_ask.new.self (Asked c.args.ask.now) _ c.self.invariant
+    any_handed c.note.new.self.handed c.note.new.self.lines (kept_asked _ _ c.replay_ask.new.self (Asked c.args.ask.now) _ c.self.invariant
     (ap (λ (d : DeskValue). d.ledger) asked.asks) asked.ok c.note.ensures.items)
 
 pub returns-clause-step : goal.returns-clause-step

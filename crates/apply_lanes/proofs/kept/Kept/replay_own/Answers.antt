@@ -16,7 +16,7 @@ invariant_of-self-2 g c =
     = omega (arith, c.spent.ensures.booked, c.spent-spent.ensures.booked, keeps.leaves.spends) in
     let has = replayed_lists _ _ c.replay_own.new.self (Wrote c.args.entry.now) c.note.new.self.items c.self.invariant
     c.in_ok-replay_own.ensures.ok c.note.ensures.items in
-    any_handed c.note.new.self.handed (kept_write _ _ _ c.args.entry.now.moves _ _ _ _ _ c.self.invariant keeps.log keeps.leaves has
+    any_handed c.note.new.self.handed c.note.new.self.lines (kept_write _ _ _ c.args.entry.now.moves _ _ _ _ _ c.self.invariant keeps.log keeps.leaves has
     more used c.add.ensures.sum c.add-2.ensures.sum)
 
 pub returns-clause-step : goal.returns-clause-step

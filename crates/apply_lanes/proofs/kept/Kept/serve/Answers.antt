@@ -15,7 +15,7 @@ invariant_of-self-2 g c =
     let ticket = c.in_ok-ticket.ensures in
     let front = served c.self.inside.desk c.serve.new.self _ _ _ _ _ ticket.ok ticket.keeps c.in-Some.is
     c.spent-before.ensures.booked c.spent.ensures.booked in
-    any_handed c.note.new.self.handed (kept_written _ _ c.serve.new.self _ _ _ _ _ _ c.self.invariant front.serves.entry front.keeps
+    any_handed c.note.new.self.handed c.note.new.self.lines (kept_written _ _ c.serve.new.self _ _ _ _ _ _ c.self.invariant front.serves.entry front.keeps
     (issued-spend _) (spent-spend _ ∙ front.amount) (raised_none _) c.add.ensures.sum c.note.ensures.items)
 
 pub returns-clause-front : goal.returns-clause-front

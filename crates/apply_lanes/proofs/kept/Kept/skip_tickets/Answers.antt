@@ -1,4 +1,4 @@
-use Rattle.std.proofs.Common.{ap, subst, sym}
+use Rattle.std.proofs.Common.{ap}
 use Rattle.rights_protocol.specs.Schedules.LocalChange.{Other}
 use Rattle.site_core.specs.Desks.{DeskValue}
 use Rattle.apply_lanes.proofs.StepLaws.{seen, steps_none}

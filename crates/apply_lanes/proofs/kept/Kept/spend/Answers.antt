@@ -13,7 +13,7 @@ invariant_of-self-in-Spent g c =
     c.in-Spent.is c.in_ok-spending.ensures.ok in
     let keeps = subst (λ s. SpendKeeps c.self.inside.desk c.args.amount s c.spend.new.self) c.in-Spent.is
     c.in_ok-spending.ensures.keeps in
-    any_handed c.note.new.self.handed (kept_written _ _ c.spend.new.self _ _ _ _ _ _ c.self.invariant spends.1.entry keeps (issued-spend _)
+    any_handed c.note.new.self.handed c.note.new.self.lines (kept_written _ _ c.spend.new.self _ _ _ _ _ _ c.self.invariant spends.1.entry keeps (issued-spend _)
     (spent-spend _) (raised_none _) c.add.ensures.sum c.note.ensures.items)
 
 pub invariant_of-seat : goal.invariant_of-seat

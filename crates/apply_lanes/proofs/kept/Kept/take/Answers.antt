@@ -11,7 +11,7 @@ use Rattle.apply_lanes.proofs.kept.Kept.take.Goals as goal
 
 pub invariant_of-self-2 : goal.invariant_of-self-2
 invariant_of-self-2 g c =
-    any_handed c.note.new.self.handed (kept_written _ _ c.take.new.self _ _ _ _ _ _ c.self.invariant c.in_ok-number.ensures.ok.entry
+    any_handed c.note.new.self.handed c.note.new.self.lines (kept_written _ _ c.take.new.self _ _ _ _ _ _ c.self.invariant c.in_ok-number.ensures.ok.entry
     c.in_ok-number.ensures.keeps (issued-spend _) (spent-spend _) (raised_none _) c.add.ensures.sum c.note.ensures.items)
 
 pub invariant_of-seat : goal.invariant_of-seat
