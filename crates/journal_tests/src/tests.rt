@@ -1,4 +1,5 @@
 //! A journal by its public calls alone.
+mod ahead;
 mod crashes;
 mod failures;
 mod files;

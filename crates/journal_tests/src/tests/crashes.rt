@@ -1,10 +1,10 @@
 //! Crashes at every call of short runs. Of each byte that no sync followed, the old one or the new one is there, and
 //! the file has any length that it may have.
-use super::kit::{answer, no_texts, reads_as};
+use super::kit::{answer, image_of, open_in, reads_as};
 use journal_device::{Device, Limits, Memory};
-use site_journal::{Journal, open};
-use std::alloc::Global;
-use std::test::Fail;
+use site_journal::Journal;
+use std::alloc::AllocGlobal;
+use std::process::Abort;
 
 /// The batches of a run.
 const RUN: [&[u8]; 3] = [b"A|", b"B 2|CC|", b"D|"];
@@ -31,43 +31,58 @@ struct Ended {
 }
 
 /// A run whose call after so many fails.
-fn run(alloc: Global, start: &[u8], calls: u64) -> Result<Ended, Fail> {
+fn run(rt: &(impl Abort + AllocGlobal), start: &[u8], calls: u64) -> Ended {
+    match open_until(rt, start, calls) {
+        Ok(journal) => append_all(rt, journal),
+        Err(file) => Ended { file, done: 0 },
+    }
+}
+
+/// A file that is opened until a call fails.
+fn open_until(
+    rt: &(impl Abort + AllocGlobal),
+    image: &[u8],
+    calls: u64,
+) -> Result<Journal<Memory>, Memory> {
     let limits = Limits {
         calls: Some(calls),
         ..Limits::NONE
     };
-    let mut texts = no_texts(alloc);
-    match open(alloc, Memory::new(alloc, start, limits)?, &mut texts) {
-        Ok(journal) => append_all(alloc, journal),
-        Err((_, file)) => Ok(Ended { file, done: 0 }),
+    match open_in(rt, image, limits) {
+        Ok(journal) => Ok(journal),
+        Err((_, file)) => Err(file),
     }
 }
 
-fn append_all(alloc: Global, mut journal: Journal<Memory>) -> Result<Ended, Fail> {
-    let mut done = 0;
-    for (i, texts) in RUN.iter().enumerate() {
-        if answer(alloc, &mut journal, texts)?.is_err() {
-            break;
-        }
-        done = i + 1;
-    }
-    Ok(Ended {
+fn append_all(rt: &(impl Abort + AllocGlobal), mut journal: Journal<Memory>) -> Ended {
+    let done = count_appended(rt, &mut journal);
+    Ended {
         file: journal.into_device(),
         done,
-    })
+    }
+}
+
+/// How many batches of a run are appended before one fails.
+fn count_appended(rt: &(impl Abort + AllocGlobal), journal: &mut Journal<Memory>) -> usize {
+    for (done, texts) in RUN.iter().enumerate() {
+        if answer(rt, journal, texts).is_err() {
+            return done;
+        }
+    }
+    RUN.len()
 }
 
 /// Whether a file with these bytes has what was told, or that and the whole next batch.
-fn has_either(alloc: Global, image: &[u8], done: usize) -> Result<bool, Fail> {
+fn has_either(rt: &(impl Abort + AllocGlobal), image: &[u8], done: usize) -> bool {
     let told = TOLD.get(done).copied().unwrap_or(b"");
     let more = TOLD.get(done.saturating_add(1)).copied().unwrap_or(told);
-    Ok(reads_as(alloc, image, told)? || reads_as(alloc, image, more)?)
+    reads_as(rt, image, told) || reads_as(rt, image, more)
 }
 
 /// Whether a crash now leaves the one or the other.
-fn is_safe(alloc: Global, ended: &Ended, written: u64, len: usize) -> Result<bool, Fail> {
-    let image = ended.file.image(written, len)?;
-    has_either(alloc, image.as_slice(), ended.done)
+fn is_safe(rt: &(impl Abort + AllocGlobal), ended: &Ended, written: u64, len: usize) -> bool {
+    let image = image_of(rt, &ended.file, written, len);
+    has_either(rt, image.as_slice(), ended.done)
 }
 
 /// The byte with this number, or none.
@@ -79,160 +94,146 @@ fn byte(place: u64) -> u64 {
 const SOME: [u64; 3] = [u64::MAX, 0x5555_5555_5555_5555, 0xaaaa_aaaa_aaaa_aaaa];
 
 /// Whether a crash is safe if these bytes came, or if the others did.
-fn are_safe(alloc: Global, ended: &Ended, bytes: u64) -> Result<bool, Fail> {
-    Ok(is_safe(alloc, ended, bytes, usize::MAX)? && is_safe(alloc, ended, !bytes, usize::MAX)?)
+fn are_safe(rt: &(impl Abort + AllocGlobal), ended: &Ended, bytes: u64) -> bool {
+    is_safe(rt, ended, bytes, usize::MAX) && is_safe(rt, ended, !bytes, usize::MAX)
 }
 
 /// The same of this byte and any one before it.
-fn are_both_safe(alloc: Global, ended: &Ended, last: u64) -> Result<bool, Fail> {
+fn are_both_safe(rt: &(impl Abort + AllocGlobal), ended: &Ended, last: u64) -> bool {
     for place in 0..=last {
-        if !are_safe(alloc, ended, byte(last) | byte(place))? {
-            return Ok(false);
+        if !are_safe(rt, ended, byte(last) | byte(place)) {
+            return false;
         }
     }
-    Ok(true)
+    true
 }
 
 /// The same of a file that is so many bytes longer than before the write, at most.
-fn is_length_safe(alloc: Global, ended: &Ended, more: u64) -> Result<bool, Fail> {
-    let shortest = ended.file.image(0, 0)?.len();
-    for written in SOME {
-        if !is_safe(
-            alloc,
-            ended,
-            written,
-            shortest.saturating_add(more as usize),
-        )? {
-            return Ok(false);
+fn is_length_safe(rt: &(impl Abort + AllocGlobal), ended: &Ended, more: u64) -> bool {
+    let shortest = image_of(rt, &ended.file, 0, 0).len();
+    let len = shortest.saturating_add(more as usize);
+    for written in &SOME {
+        if !is_safe(rt, ended, *written, len) {
+            return false;
         }
     }
-    Ok(true)
+    true
 }
 
 /// Whether a crash now is safe, whichever two bytes came to the disk or did not come, and whatever the length.
-fn is_crash_safe(alloc: Global, ended: &Ended) -> Result<bool, Fail> {
+fn is_crash_safe(rt: &(impl Abort + AllocGlobal), ended: &Ended) -> bool {
     for place in 0..=WIDTH {
-        if !are_both_safe(alloc, ended, place)? || !is_length_safe(alloc, ended, place)? {
-            return Ok(false);
+        if !are_both_safe(rt, ended, place) || !is_length_safe(rt, ended, place) {
+            return false;
         }
     }
-    Ok(true)
+    true
 }
 
 /// Whether a crash may leave more than one file.
-fn is_torn(file: &Memory) -> Result<bool, Fail> {
-    Ok(file.image(0, 0)?.as_slice() != file.image(u64::MAX, usize::MAX)?.as_slice())
+fn is_torn(rt: &impl Abort, file: &Memory) -> bool {
+    let least = image_of(rt, file, 0, 0);
+    least.as_slice() != image_of(rt, file, u64::MAX, usize::MAX).as_slice()
+}
+
+/// Whether a crash at the end of a run is safe.
+fn is_end_safe(rt: &(impl Abort + AllocGlobal), ended: &Ended) -> bool {
+    if is_torn(rt, &ended.file) {
+        is_crash_safe(rt, ended)
+    } else {
+        is_safe(rt, ended, 0, 0)
+    }
 }
 
 /// Whether each crash point of a run is safe.
-fn is_run_safe(alloc: Global, start: &[u8]) -> Result<bool, Fail> {
+fn is_run_safe(rt: &(impl Abort + AllocGlobal), start: &[u8]) -> bool {
     for calls in 0..40 {
-        let ended = run(alloc, start, calls)?;
-        let is_right = if is_torn(&ended.file)? {
-            is_crash_safe(alloc, &ended)?
-        } else {
-            is_safe(alloc, &ended, 0, 0)?
-        };
-        if !is_right {
-            return Ok(false);
+        let ended = run(rt, start, calls);
+        if !is_end_safe(rt, &ended) {
+            return false;
         }
         if ended.done == RUN.len() {
-            return Ok(true);
+            return true;
         }
     }
-    Ok(false)
+    false
 }
 
 #[test]
-fn every_crash_of_a_run(rt: HostRuntime) -> Result<(), Fail> {
-    for start in STARTS {
-        assert!(rt; is_run_safe(rt.alloc(), start)?);
-    }
-    Ok(())
-}
-
-/// A file that is opened until a call fails, and whether none did.
-fn open_until(alloc: Global, image: &[u8], calls: u64) -> Result<(Memory, bool), Fail> {
-    let limits = Limits {
-        calls: Some(calls),
-        ..Limits::NONE
-    };
-    let mut texts = no_texts(alloc);
-    match open(alloc, Memory::new(alloc, image, limits)?, &mut texts) {
-        Ok(journal) => Ok((journal.into_device(), true)),
-        Err((_, file)) => Ok((file, false)),
+fn every_crash_of_a_run(rt: HostRuntime) {
+    for start in &STARTS {
+        assert!(rt; is_run_safe(&rt, start));
     }
 }
 
 /// Whether a crash now leaves these records, whatever the length.
-fn leaves(alloc: Global, file: &Memory, texts: &[u8]) -> Result<bool, Fail> {
-    let longest = file.image(0, usize::MAX)?.len();
-    let shortest = file.image(0, 0)?.len();
+fn leaves(rt: &(impl Abort + AllocGlobal), file: &Memory, texts: &[u8]) -> bool {
+    let longest = image_of(rt, file, 0, usize::MAX).len();
+    let shortest = image_of(rt, file, 0, 0).len();
     for len in shortest..=longest {
-        if !reads_as(alloc, file.image(0, len)?.as_slice(), texts)? {
-            return Ok(false);
+        if !reads_as(rt, image_of(rt, file, 0, len).as_slice(), texts) {
+            return false;
         }
     }
-    Ok(true)
+    true
 }
 
 /// Whether each crash while the file is opened leaves these records.
-fn opens_safely(alloc: Global, image: &[u8], texts: &[u8]) -> Result<bool, Fail> {
+fn opens_safely(rt: &(impl Abort + AllocGlobal), image: &[u8], texts: &[u8]) -> bool {
     for calls in 0..20 {
-        let (file, is_open) = open_until(alloc, image, calls)?;
-        if !leaves(alloc, &file, texts)? {
-            return Ok(false);
-        }
-        if is_open {
-            return Ok(true);
+        match open_until(rt, image, calls) {
+            Ok(journal) => return leaves(rt, journal.device(), texts),
+            Err(file) => {
+                if !leaves(rt, &file, texts) {
+                    return false;
+                }
+            }
         }
     }
-    Ok(false)
+    false
+}
+
+/// Whether opening is safe after a crash that left these bytes and this length.
+fn is_reopened(rt: &(impl Abort + AllocGlobal), ended: &Ended, written: u64, len: usize) -> bool {
+    let image = image_of(rt, &ended.file, written, len);
+    opens_safely(rt, image.as_slice(), b"A|")
 }
 
 /// Whether opening is safe after a crash that lost this byte, or ended the file there.
-fn is_loss_safe(alloc: Global, ended: &Ended, place: u64) -> Result<bool, Fail> {
-    let hole = ended.file.image(!byte(place), usize::MAX)?;
-    let short = ended
-        .file
-        .image(u64::MAX, 23usize.saturating_add(place as usize))?;
-    Ok(
-        opens_safely(alloc, hole.as_slice(), b"A|")?
-            && opens_safely(alloc, short.as_slice(), b"A|")?,
-    )
+fn is_loss_safe(rt: &(impl Abort + AllocGlobal), ended: &Ended, place: u64) -> bool {
+    let end = 23usize.saturating_add(place as usize);
+    is_reopened(rt, ended, !byte(place), usize::MAX) && is_reopened(rt, ended, u64::MAX, end)
 }
 
 /// What a crash may leave of the second batch is opened, and that may crash too.
 #[test]
-fn crashes_of_opening(rt: HostRuntime) -> Result<(), Fail> {
-    let ended = run(rt.alloc(), b"", 5)?;
+fn crashes_of_opening(rt: HostRuntime) {
+    let ended = run(&rt, b"", 5);
     assert!(rt; ended.done == 1);
     for place in 0..WIDTH {
-        assert!(rt; is_loss_safe(rt.alloc(), &ended, place)?, "byte {place}");
+        assert!(rt; is_loss_safe(&rt, &ended, place), "byte {place}");
     }
-    Ok(())
 }
 
 /// Whether a crash is safe, whether this byte and any two before it came or did not.
-fn are_any_safe(alloc: Global, ended: &Ended, last: u64) -> Result<bool, Fail> {
+fn are_any_safe(rt: &(impl Abort + AllocGlobal), ended: &Ended, last: u64) -> bool {
     for a in 0..=last {
         for b in 0..=a {
-            if !are_safe(alloc, ended, byte(last) | byte(a) | byte(b))? {
-                return Ok(false);
+            if !are_safe(rt, ended, byte(last) | byte(a) | byte(b)) {
+                return false;
             }
         }
     }
-    Ok(true)
+    true
 }
 
 /// Of a batch of 23 bytes: any three bytes came, or any three did not.
 #[test]
-fn any_three_bytes(rt: HostRuntime) -> Result<(), Fail> {
-    let ended = run(rt.alloc(), b"", 3)?;
+fn any_three_bytes(rt: HostRuntime) {
+    let ended = run(&rt, b"", 3);
     for last in 0..23 {
-        assert!(rt; are_any_safe(rt.alloc(), &ended, last)?);
+        assert!(rt; are_any_safe(&rt, &ended, last));
     }
-    Ok(())
 }
 
 /// What a crash may leave of "ab" with "XY" written at 1: which bytes came, the length, and the file.
@@ -251,36 +252,29 @@ const WRITTEN: [(u64, usize, &[u8]); 9] = [
 /// The same of "aXY" cut to one byte.
 const CUT: [(usize, &[u8]); 4] = [(0, b"a"), (1, b"a"), (2, b"aX"), (9, b"aXY")];
 
-fn written(alloc: Global) -> Result<Memory, Fail> {
-    let mut file = Memory::new(alloc, b"ab", Limits::NONE)?;
-    match file.write_at(1, b"XY") {
-        Ok(()) => Ok(file),
-        Err(_) => Err(Fail::new("not written")),
-    }
+fn written(rt: &(impl Abort + AllocGlobal)) -> Memory {
+    let mut file = Memory::new(rt.alloc(), b"ab", Limits::NONE).expect(rt, "memory");
+    assert!(rt; file.write_at(1, b"XY").is_ok());
+    file
 }
 
-fn synced_and_cut(mut file: Memory) -> Result<Memory, Fail> {
-    if file.sync().is_ok() && file.cut(1).is_ok() {
-        Ok(file)
-    } else {
-        Err(Fail::new("not cut"))
-    }
+fn sync_and_cut(file: &mut Memory) -> bool {
+    file.sync().is_ok() && file.cut(1).is_ok()
 }
 
-fn is_image(file: &Memory, written: u64, len: usize, image: &[u8]) -> Result<bool, Fail> {
-    Ok(file.image(written, len)?.as_slice() == image)
+fn is_image(rt: &impl Abort, file: &Memory, written: u64, len: usize, image: &[u8]) -> bool {
+    image_of(rt, file, written, len).as_slice() == image
 }
 
 /// The files in memory have the images that a crash may leave.
 #[test]
-fn images(rt: HostRuntime) -> Result<(), Fail> {
-    let file = written(rt.alloc())?;
-    for (came, len, image) in WRITTEN {
-        assert!(rt; is_image(&file, came, len, image)?);
+fn images(rt: HostRuntime) {
+    let mut file = written(&rt);
+    for (came, len, image) in &WRITTEN {
+        assert!(rt; is_image(&rt, &file, *came, *len, image));
     }
-    let file = synced_and_cut(file)?;
-    for (len, image) in CUT {
-        assert!(rt; is_image(&file, 0, len, image)?);
+    assert!(rt; sync_and_cut(&mut file));
+    for (len, image) in &CUT {
+        assert!(rt; is_image(&rt, &file, 0, *len, image));
     }
-    Ok(())
 }

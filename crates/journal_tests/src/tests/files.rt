@@ -1,14 +1,14 @@
 //! The bytes of journals. The digests were made with Python's hashlib.
-use super::kit::{append, damage, no_texts, opened, reads_as};
+use super::kit::{append, damage, new_journal, no_texts, opened, reads_as};
 use journal_device::{Limits, Memory};
-use site_journal::{End, read};
-use std::alloc::Global;
-use std::test::Fail;
+use site_journal::{End, Journal, read};
+use std::alloc::AllocGlobal;
+use std::process::Abort;
 
 const FIRST: &[u8] = b"= 9 883fe6fcd28b39b9\nA 1\nB 22\n";
 
 /// Files that a crash may leave, and their records.
-const LEFT: [(&[u8], &[u8]); 18] = [
+pub(crate) const LEFT: [(&[u8], &[u8]); 18] = [
     (b"", b""),
     (b"\0\0\0", b""),
     (b"= 9 883fe6fcd28b39b9\nA 1\nB 22\n", b"A 1|B 22|"),
@@ -65,7 +65,7 @@ const LEFT: [(&[u8], &[u8]); 18] = [
 ];
 
 /// Other files, and the byte of the damage, or None.
-const DAMAGED: [(&[u8], Option<usize>); 31] = [
+pub(crate) const DAMAGED: [(&[u8], Option<usize>); 31] = [
     (b"hello", Some(0)),
     (b"A 1\n", Some(0)),
     (b"= 4", None),
@@ -182,70 +182,72 @@ fn end_of(batch: usize) -> usize {
     ENDS.get(batch).copied().unwrap_or(0)
 }
 
-/// Whether opening answers as it must where one byte has changed. A changed byte is damage, at the start of its batch,
-/// with two exceptions in the last batch: a zero byte may be one that was not written, and the count may count more bytes
-/// than came.
-fn is_told(alloc: Global, place: usize, byte: u8) -> Result<bool, Fail> {
-    let mut image = WHOLE.to_vec(alloc)?;
+/// A copy of a file, with this byte in a place.
+fn changed(rt: &(impl Abort + AllocGlobal), whole: &[u8], place: usize, byte: u8) -> Vec<u8> {
+    let mut image = whole.to_vec(rt.alloc()).expect(rt, "memory");
     if let Some(old) = image.get_mut(place) {
         *old = byte;
     }
+    image
+}
+
+/// Whether opening answers as it must where one byte has changed. A changed byte is damage, at the start of its batch,
+/// with two exceptions in the last batch: a zero byte may be one that was not written, and the count may count more bytes
+/// than came.
+fn is_told(rt: &(impl Abort + AllocGlobal), image: &[u8], place: usize, byte: u8) -> bool {
     let batch = batch_at(place);
     let is_lost = byte == 0 && batch == 2;
     let is_more = place == 57 && byte > b'4' && byte <= b'9';
     if WHOLE.get(place) == Some(&byte) {
-        reads_as(alloc, image.as_slice(), texts_of(3))
+        reads_as(rt, image, texts_of(3))
     } else if is_lost || is_more {
-        reads_as(alloc, image.as_slice(), texts_of(batch))
+        reads_as(rt, image, texts_of(batch))
     } else {
-        Ok(damage(alloc, image.as_slice(), usize::MAX)? == Some(end_of(batch)))
+        damage(rt, image, usize::MAX) == Some(end_of(batch))
     }
 }
 
 /// Files that a crash may leave, batches in another order, and a batch that stands there twice.
 #[test]
-fn files_that_a_crash_leaves(rt: HostRuntime) -> Result<(), Fail> {
+fn files_that_a_crash_leaves(rt: HostRuntime) {
     for (i, (image, records)) in LEFT.iter().enumerate() {
-        assert!(rt; reads_as(rt.alloc(), image, records)?, "file {i}");
+        assert!(rt; reads_as(&rt, image, records), "file {i}");
     }
-    Ok(())
 }
 
 /// Whether the damage is found, also where reads return a few bytes at a time.
-fn is_damaged(alloc: Global, image: &[u8], at_byte: Option<usize>) -> Result<bool, Fail> {
+fn is_damaged(rt: &(impl Abort + AllocGlobal), image: &[u8], at_byte: Option<usize>) -> bool {
     for piece in [usize::MAX, 1, 7, 27] {
-        if damage(alloc, image, piece)? != at_byte {
-            return Ok(false);
+        if damage(rt, image, piece) != at_byte {
+            return false;
         }
     }
-    Ok(true)
+    true
 }
 
 #[test]
-fn damaged_files(rt: HostRuntime) -> Result<(), Fail> {
+fn damaged_files(rt: HostRuntime) {
     for (i, (image, at_byte)) in DAMAGED.iter().enumerate() {
-        assert!(rt; is_damaged(rt.alloc(), image, *at_byte)?, "file {i}");
+        assert!(rt; is_damaged(&rt, image, *at_byte), "file {i}");
     }
-    Ok(())
 }
 
 /// Whether opening answers as it must, whatever is put in the place of this byte.
-fn are_told(alloc: Global, place: usize) -> Result<bool, Fail> {
+fn are_told(rt: &(impl Abort + AllocGlobal), place: usize) -> bool {
     for byte in 0..=255 {
-        if !is_told(alloc, place, byte)? {
-            return Ok(false);
+        if !is_told(rt, &changed(rt, WHOLE, place, byte), place, byte) {
+            return false;
         }
     }
-    Ok(true)
+    true
 }
 
 /// Each byte of a journal is set to each value.
 #[test]
-fn changed_bytes(rt: HostRuntime) -> Result<(), Fail> {
+fn changed_bytes(rt: HostRuntime) {
     for place in 0..WHOLE.len() {
-        assert!(rt; are_told(rt.alloc(), place)?, "byte {place}");
+        assert!(rt; are_told(&rt, place), "byte {place}");
     }
-    Ok(())
 }
 
 /// Batches whose counts have two digits: a greater one counts more bytes than the file has.
@@ -259,106 +261,78 @@ const RUN: [&[u8]; 4] = [
 /// Their records but those of the last one.
 const BUT_LAST: &[u8] = b"A 1|B 2222222|C 33333333333|D 4|E 5555555|";
 
-/// A journal that they were appended to, and where the last one begins.
-fn appended(alloc: Global) -> Result<(Vec<u8>, usize), Fail> {
-    let (mut journal, _) = opened(alloc, b"")?;
+/// Appends them to a journal, and returns where the last one begins.
+fn append_run(rt: &(impl Abort + AllocGlobal), journal: &mut Journal<Memory>) -> usize {
     let mut last = 0;
-    for texts in RUN {
+    for texts in &RUN {
         last = journal.len();
-        append(alloc, &mut journal, texts)?;
+        append(rt, journal, texts);
     }
-    Ok((journal.device().bytes().to_vec(alloc)?, last))
+    last
 }
 
 /// Whether a changed journal is refused as damage. Of the last batch it may also be one that was not told, and then it
 /// alone is cut off.
-fn is_kept(alloc: Global, image: &[u8], is_last: bool) -> Result<bool, Fail> {
-    Ok(
-        damage(alloc, image, usize::MAX)?.is_some()
-            || (is_last && reads_as(alloc, image, BUT_LAST)?),
-    )
-}
-
-/// Whether it is, with this byte in a place.
-fn is_kept_with(
-    alloc: Global,
-    whole: &[u8],
-    place: usize,
-    byte: u8,
-    is_last: bool,
-) -> Result<bool, Fail> {
-    let mut image = whole.to_vec(alloc)?;
-    if let Some(old) = image.get_mut(place) {
-        *old = byte;
-    }
-    is_kept(alloc, image.as_slice(), is_last)
+fn is_kept(rt: &(impl Abort + AllocGlobal), image: &[u8], is_last: bool) -> bool {
+    damage(rt, image, usize::MAX).is_some() || (is_last && reads_as(rt, image, BUT_LAST))
 }
 
 /// Whether it is, if the byte becomes a zero byte, and if each bit of it is flipped.
-fn are_kept(alloc: Global, whole: &[u8], place: usize, is_last: bool) -> Result<bool, Fail> {
+fn are_kept(rt: &(impl Abort + AllocGlobal), whole: &[u8], place: usize, is_last: bool) -> bool {
     let old = whole.get(place).copied().unwrap_or(0);
-    if !is_kept_with(alloc, whole, place, 0, is_last)? {
-        return Ok(false);
+    if !is_kept(rt, &changed(rt, whole, place, 0), is_last) {
+        return false;
     }
     for bit in [1, 2, 4, 8, 16, 32, 64, 128] {
-        if !is_kept_with(alloc, whole, place, old ^ bit, is_last)? {
-            return Ok(false);
+        if !is_kept(rt, &changed(rt, whole, place, old ^ bit), is_last) {
+            return false;
         }
     }
-    Ok(true)
+    true
 }
 
 /// One byte of a journal that is lost, or one bit that is flipped, loses no batch but the last one.
 #[test]
-fn flipped_bits(rt: HostRuntime) -> Result<(), Fail> {
-    let (whole, last) = appended(rt.alloc())?;
+fn flipped_bits(rt: HostRuntime) {
+    let mut journal = new_journal(&rt);
+    let last = append_run(&rt, &mut journal);
+    let whole = journal.device().bytes();
     for place in 0..whole.len() {
-        let is_last = place >= last;
-        assert!(rt;
-            are_kept(rt.alloc(), whole.as_slice(), place, is_last)?,
-            "byte {place}"
-        );
+        assert!(rt; are_kept(&rt, whole, place, place >= last), "byte {place}");
     }
-    Ok(())
 }
 
 /// Whether the file, ended there, has the batches that are whole.
-fn is_ended(alloc: Global, len: usize) -> Result<bool, Fail> {
-    let (journal, texts) = opened(alloc, WHOLE.get(..len).unwrap_or(b""))?;
+fn is_ended(rt: &(impl Abort + AllocGlobal), len: usize) -> bool {
+    let mut texts = no_texts(rt.alloc());
+    let journal = opened(rt, WHOLE.get(..len).unwrap_or(b""), &mut texts);
     let end = end_of(batch_at(len));
-    Ok(
-        texts.as_slice() == texts_of(batch_at(len))
-            && journal.len() == end
-            && journal.was_cut() == (len != end),
-    )
+    texts.all.as_slice() == texts_of(batch_at(len))
+        && journal.len() == end
+        && journal.was_cut() == (len != end)
 }
 
 /// A journal that ends at each byte.
 #[test]
-fn files_of_each_length(rt: HostRuntime) -> Result<(), Fail> {
+fn files_of_each_length(rt: HostRuntime) {
     for len in 0..WHOLE.len() {
-        assert!(rt; is_ended(rt.alloc(), len)?, "length {len}");
+        assert!(rt; is_ended(&rt, len), "length {len}");
     }
-    Ok(())
 }
 
-/// Reads a file, and says whether it is unchanged.
-fn read_only(alloc: Global, image: &[u8]) -> Result<(Option<End>, bool), Fail> {
-    let mut texts = no_texts(alloc);
-    let mut file = Memory::new(alloc, image, Limits::NONE)?;
-    let end = read(alloc, &mut file, &mut texts).ok();
-    Ok((end, file.bytes() == image))
+/// Whether reading finds this end, and leaves the file unchanged.
+fn reads_to(rt: &(impl Abort + AllocGlobal), image: &[u8], end: End) -> bool {
+    let mut texts = no_texts(rt.alloc());
+    let mut file = Memory::new(rt.alloc(), image, Limits::NONE).expect(rt, "memory");
+    read(rt.alloc(), &mut file, &mut texts).ok() == Some(end) && file.bytes() == image
 }
 
 /// Reading finds where a journal ends, and leaves what stands behind.
 #[test]
-fn reading(rt: HostRuntime) -> Result<(), Fail> {
+fn reading(rt: HostRuntime) {
     let rest = b"= 9 883fe6fcd28b39b9\nA 1\nB 22\n= 4 c19805";
-    let (end, is_same) = read_only(rt.alloc(), rest)?;
     let has_rest = true;
-    assert!(rt; end == Some(End { at: 30, has_rest }) && is_same);
-    let (end, is_same) = read_only(rt.alloc(), FIRST)?;
+    assert!(rt; reads_to(&rt, rest, End { at: 30, has_rest }));
     let has_rest = false;
-    assert!(rt; end == Some(End { at: 30, has_rest }) && is_same);
-    Ok(())
+    assert!(rt; reads_to(&rt, FIRST, End { at: 30, has_rest }));
 }

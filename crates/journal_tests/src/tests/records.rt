@@ -4,8 +4,8 @@ use rights_types::SiteId;
 use site_core::{DeskError, ReplayError};
 use site_journal::TakeRecords;
 use site_records::{RecordFault, Restoring, read_key, read_opening, read_tickets};
-use std::alloc::Global;
-use std::test::Fail;
+use std::alloc::AllocGlobal;
+use std::process::Abort;
 
 /// The line of an opening, and the site, the number of sites and the name that it has.
 const OPENINGS: [(&str, u64, u64, &str); 5] = [
@@ -66,10 +66,10 @@ fn opens_as(line: &str, site: u64, sites: u64, name: &str) -> bool {
 
 #[test]
 fn openings(rt: HostRuntime) {
-    for (line, site, sites, name) in OPENINGS {
-        assert!(rt; opens_as(line, site, sites, name), "{line}");
+    for (line, site, sites, name) in &OPENINGS {
+        assert!(rt; opens_as(*line, *site, *sites, *name), "{line}");
     }
-    for line in NO_OPENINGS {
+    for line in &NO_OPENINGS {
         assert!(rt; read_opening(line.as_bytes()).is_none(), "{line}");
     }
 }
@@ -87,8 +87,8 @@ const TICKETS: [(&str, Option<u64>); 8] = [
 
 #[test]
 fn tickets(rt: HostRuntime) {
-    for (line, last) in TICKETS {
-        assert!(rt; read_tickets(line.as_bytes()) == last, "{line}");
+    for (line, last) in &TICKETS {
+        assert!(rt; read_tickets(line.as_bytes()) == *last, "{line}");
     }
 }
 
@@ -131,10 +131,10 @@ fn says_key(line: &str, text: &str, of: u64) -> bool {
 
 #[test]
 fn keys(rt: HostRuntime) {
-    for (line, key, number) in KEYS {
-        assert!(rt; says_key(line, key, number), "{line}");
+    for (line, key, number) in &KEYS {
+        assert!(rt; says_key(*line, *key, *number), "{line}");
     }
-    for line in NO_KEYS {
+    for line in &NO_KEYS {
         assert!(rt; read_key(line.as_bytes()).is_none(), "{line}");
     }
 }
@@ -290,25 +290,21 @@ const JOURNALS: [Journal; 27] = [
     ),
 ];
 
-fn restores(alloc: Global, journal: &Journal) -> Result<bool, Fail> {
+fn restores(rt: &(impl Abort + AllocGlobal), journal: &Journal) -> bool {
     let (records, taken, fault, held) = journal;
-    let mut restoring = Restoring::new(alloc, SiteId::new(1)?, 2, None)?;
+    let site = SiteId::known(1);
+    let mut restoring = Restoring::new(rt.alloc(), site, 2, None).expect(rt, "memory");
     for record in *records {
         if !restoring.take_record(record.as_bytes()) {
             break;
         }
     }
-    Ok(
-        restoring.taken() == *taken
-            && restoring.fault() == *fault
-            && restoring.desk().held() == *held,
-    )
+    restoring.taken() == *taken && restoring.fault() == *fault && restoring.desk().held() == *held
 }
 
 #[test]
-fn journals_of_a_site(rt: HostRuntime) -> Result<(), Fail> {
+fn journals_of_a_site(rt: HostRuntime) {
     for (place, journal) in JOURNALS.iter().enumerate() {
-        assert!(rt; restores(rt.alloc(), journal)?, "journal {place}");
+        assert!(rt; restores(&rt, journal), "journal {place}");
     }
-    Ok(())
 }

@@ -1,9 +1,9 @@
 //! Journals of sites: each command in a batch of its own, and the first records of all sites.
-use super::kit::{append, opened, reads_as};
+use super::kit::{append, new_journal, reads_as};
 use journal_device::Memory;
 use site_journal::Journal;
-use std::alloc::Global;
-use std::test::Fail;
+use std::alloc::{AllocError, AllocGlobal};
+use std::process::Abort;
 
 /// What site 1 of 3 keeps, a batch and its records: it begins, issues, asks, spends and gives, applies what its peer
 /// granted it, grants, applies the closing of a peer, from which it takes back, and closes. The digests were made with
@@ -34,55 +34,68 @@ const BATCHES: [(&[u8], &[u8]); 8] = [
     ),
 ];
 
-/// The batches so far, one behind another, and their records.
-fn joined(alloc: Global, count: usize) -> Result<(Vec<u8>, Vec<u8>), Fail> {
-    let mut file = Vec::new(alloc);
-    let mut all = Vec::new(alloc);
-    for (bytes, texts) in BATCHES.iter().take(count) {
+/// Adds the batches so far, one behind another.
+fn put_batches(file: &mut Vec<u8>, count: usize) -> Result<(), AllocError> {
+    for (bytes, _) in BATCHES.iter().take(count) {
         file.extend_from_slice(bytes)?;
-        all.extend_from_slice(texts)?;
     }
-    Ok((file, all))
+    Ok(())
 }
 
-/// Whether the journal, to which so many batches were appended, has these bytes, and is opened with their records.
-fn is_written(alloc: Global, journal: &Journal<Memory>, count: usize) -> Result<bool, Fail> {
-    let (file, all) = joined(alloc, count)?;
-    Ok(
-        journal.device().bytes() == file.as_slice()
-            && journal.len() == file.len()
-            && reads_as(alloc, file.as_slice(), all.as_slice())?,
-    )
+/// Adds their records.
+fn put_records(texts: &mut Vec<u8>, count: usize) -> Result<(), AllocError> {
+    for (_, records) in BATCHES.iter().take(count) {
+        texts.extend_from_slice(records)?;
+    }
+    Ok(())
+}
+
+/// Whether the journal, to which so many batches were appended, has these bytes.
+fn is_written(rt: &(impl Abort + AllocGlobal), journal: &Journal<Memory>, count: usize) -> bool {
+    let mut file = Vec::new(rt.alloc());
+    put_batches(&mut file, count).expect(rt, "memory");
+    journal.device().bytes() == file.as_slice() && journal.len() == file.len()
+}
+
+/// Whether its file is opened with their records.
+fn is_read(rt: &(impl Abort + AllocGlobal), journal: &Journal<Memory>, count: usize) -> bool {
+    let mut texts = Vec::new(rt.alloc());
+    put_records(&mut texts, count).expect(rt, "memory");
+    reads_as(rt, journal.device().bytes(), &texts)
 }
 
 /// A journal that was written by hand is opened, and one that is appended to has the same bytes. A batch of no record
 /// changes nothing.
 #[test]
-fn each_command(rt: HostRuntime) -> Result<(), Fail> {
-    let (mut journal, _) = opened(rt.alloc(), b"")?;
+fn each_command(rt: HostRuntime) {
+    let mut journal = new_journal(&rt);
     for (i, (_, texts)) in BATCHES.iter().enumerate() {
-        append(rt.alloc(), &mut journal, texts)?;
-        append(rt.alloc(), &mut journal, b"")?;
-        assert!(rt; is_written(rt.alloc(), &journal, i + 1)?, "batch {i}");
+        append(&rt, &mut journal, texts);
+        append(&rt, &mut journal, b"");
+        assert!(rt; is_written(&rt, &journal, i + 1), "batch {i}");
+        assert!(rt; is_read(&rt, &journal, i + 1), "batch {i}");
     }
-    Ok(())
+}
+
+/// Whether this record of a new journal is read again.
+fn is_read_again(rt: &(impl Abort + AllocGlobal), text: &[u8]) -> bool {
+    let mut journal = new_journal(rt);
+    append(rt, &mut journal, text);
+    reads_as(rt, journal.device().bytes(), text)
 }
 
 /// Whether the first record of a site is read again.
-fn begins(alloc: Global, site: u64, sites: u64) -> Result<bool, Fail> {
-    let text = format!(in alloc; "J 1 {site} {sites} sale|")?;
-    let (mut journal, _) = opened(alloc, b"")?;
-    append(alloc, &mut journal, text.as_bytes())?;
-    reads_as(alloc, journal.device().bytes(), text.as_bytes())
+fn begins(rt: &(impl Abort + AllocGlobal), site: u64, sites: u64) -> bool {
+    let text = format!(in rt.alloc(); "J 1 {site} {sites} sale|").expect(rt, "memory");
+    is_read_again(rt, text.as_bytes())
 }
 
 /// The first record of each site of systems of 2 to 16 sites.
 #[test]
-fn first_records(rt: HostRuntime) -> Result<(), Fail> {
+fn first_records(rt: HostRuntime) {
     for sites in 2..=16 {
         for site in 1..=sites {
-            assert!(rt; begins(rt.alloc(), site, sites)?, "site {site} of {sites}");
+            assert!(rt; begins(&rt, site, sites), "site {site} of {sites}");
         }
     }
-    Ok(())
 }

@@ -11,25 +11,10 @@ use std::alloc::Global;
 use std::process::Abort;
 use std::sync::Wait;
 use std::time::Clock;
+use test_kit::fill;
 
-// What each other site of sixteen gives to site 1, from site 2 on.
-const GIFTS: [&str; 15] = [
-    "E 2 0 2 I:20 R:1:2\n",
-    "E 3 0 2 I:20 R:1:3\n",
-    "E 4 0 2 I:20 R:1:4\n",
-    "E 5 0 2 I:20 R:1:5\n",
-    "E 6 0 2 I:20 R:1:6\n",
-    "E 7 0 2 I:20 R:1:7\n",
-    "E 8 0 2 I:20 R:1:8\n",
-    "E 9 0 2 I:20 R:1:9\n",
-    "E 10 0 2 I:20 R:1:10\n",
-    "E 11 0 2 I:20 R:1:11\n",
-    "E 12 0 2 I:20 R:1:12\n",
-    "E 13 0 2 I:20 R:1:13\n",
-    "E 14 0 2 I:20 R:1:14\n",
-    "E 15 0 2 I:20 R:1:15\n",
-    "E 16 0 2 I:20 R:1:16\n",
-];
+// What each other site of sixteen gives to site 1.
+const GIFT: &str = "E $1 0 2 I:20 R:1:$1\n";
 
 // An entry of 16 moves.
 const LONGEST: &str =
@@ -55,10 +40,19 @@ fn applied_of<D: DeskNames, R: Wait + Clock + Abort>(
     taken_in(intake, applier).done()
 }
 
+// What the applier of that origin reports, once it has applied its gift.
+fn gift_of<D: DeskNames, R: Host>(rt: &R, desk: &SharedDesk<D>, origin: u64) -> Applied<D>
+    requires { (2 ≤ origin) × (origin ≤ 16) }
+{
+    let mut line = String::new(rt.alloc());
+    fill(&mut line, GIFT, &[origin]).expect(rt, "memory");
+    applied_of(rt, rt.alloc(), desk, origin, &line)
+}
+
 // The desk, and the gifts of all other sites.
 fn with_all_gifts<D: DeskNames, R: Host>(rt: &R, mut parts: Parts<D>) -> Parts<D> {
-    for place in 0..15 {
-        let gift = applied_of(rt, rt.alloc(), &parts.desk, place as u64 + 2, GIFTS[place]);
+    for origin in 2..17 {
+        let gift = gift_of(rt, &parts.desk, origin);
         parts = with_applied(rt, parts, gift);
     }
     parts

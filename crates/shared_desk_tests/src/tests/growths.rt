@@ -231,8 +231,8 @@ fn make_all<D: DeskNames, R: Wait + Clock + Abort>(
     seat: &mut Seat<D>,
     applier: &mut Applier<D, Free>,
 ) {
-    for call in CALLS {
-        assert!(rt; is_made(rt, desk, seat, applier, call));
+    for call in &CALLS {
+        assert!(rt; is_made(rt, desk, seat, applier, *call));
     }
     let (view, told) = seen(rt, desk, seat);
     assert!(rt; told == [40, 1, 20] && is_final(&view));

@@ -7,12 +7,13 @@ use crate::tests::sites::{Site, opened};
 use apply_lanes::{Blanks, DeskNames};
 use rights_types::SiteId;
 use site_core::Desk;
-use std::alloc::{AllocGlobal, Global};
+use std::alloc::{AllocError, AllocGlobal, Global};
 use std::marker::Brand;
 use std::process::Abort;
 use std::str;
 use std::sync::Wait;
 use std::time::Clock;
+use test_kit::fill;
 
 // Plays a `1 command > reply` line on two sites.
 fn play<D: DeskNames, E: DeskNames, R: Wait + Clock + Abort>(
@@ -24,12 +25,13 @@ fn play<D: DeskNames, E: DeskNames, R: Wait + Clock + Abort>(
 ) {
     let (call, wanted) = text.split_once(" > ").expect(rt, "a reply");
     let (site, command) = call.split_once(' ').expect(rt, "a site");
-    let reply = if site == "1" {
-        one.plays(rt, alloc, command)
+    let mut reply = String::new(alloc);
+    let put = if site == "1" {
+        one.put_reply(rt, alloc, &mut reply, command)
     } else {
-        two.plays(rt, alloc, command)
+        two.put_reply(rt, alloc, &mut reply, command)
     };
-    let reply = reply.expect(rt, "memory");
+    put.expect(rt, "memory");
     assert!(rt; reply.as_str() == wanted, "{text}: {reply}");
 }
 
@@ -244,25 +246,19 @@ fn a_silent_peer(rt: HostRuntime) {
 }
 
 // Spends until all slots of the queue are taken, and one more.
-fn spends_of_a_full_queue<R: Abort>(rt: &R, alloc: Global) -> String {
-    let mut script = String::from_str(
-        alloc,
-        "1 issue 3 > number 1\n1 give 2 3 > number 2\n",
-    ).expect(rt, "memory");
+fn put_spends_of_a_full_queue(script: &mut String) -> Result<(), AllocError> {
+    script.push_str("1 issue 3 > number 1\n1 give 2 3 > number 2\n")?;
     for ticket in 1..=32u64 {
-        let line = format!(in alloc; "1 spend 1 0 > queued {ticket}\n").expect(rt, "memory");
-        script.push_str(line.as_str()).expect(rt, "memory");
+        fill(script, "1 spend 1 0 > queued $1\n", &[ticket])?;
     }
-    script
-        .push_str("1 spend 1 0 > error QueueFull")
-        .expect(rt, "memory");
-    script
+    script.push_str("1 spend 1 0 > error QueueFull")
 }
 
 /// Thirty-two spends wait, and no more.
 #[test]
 fn a_full_queue(rt: HostRuntime) {
-    let script = spends_of_a_full_queue(&rt, rt.alloc());
+    let mut script = String::new(rt.alloc());
+    put_spends_of_a_full_queue(&mut script).expect(&rt, "memory");
     plays(&rt, script.as_str());
 }
 

@@ -4,8 +4,8 @@ ghost use Rattle.apply_lanes.specs.Names.{id_of, AreBlank, IsUnused};
 
 use crate::tests::desks::{applier_at, seat_at};
 use apply_lanes::{
-    Applier, Arrived, Blanks, DeskMessage, DeskNames, Free, Intake, Kept, Outlet, Seat, SharedDesk,
-    lane,
+    Applier, Arrived, Blanks, DeskMessage, DeskNames, DeskView, Free, Intake, Kept, Outlet, Seat,
+    SharedDesk, VerdictCounts, lane,
 };
 use inbound::Inbound;
 use request_queue::Status;
@@ -27,8 +27,6 @@ pub(crate) struct Site<D: DeskNames> {
     intake: Intake,
     ghost open: { intake.finished ≡ false },
 }
-
-type Reply = Result<String, AllocError>;
 
 // The intake for its peer, and the outlet of its lane.
 fn link_between<R: Abort>(
@@ -70,287 +68,395 @@ pub(crate) fn opened<D: DeskNames, R: Wait + Abort>(
     }
 }
 
-fn numbered(alloc: Global, word: &str, answer: Result<u64, DeskError>) -> Reply {
-    match answer {
-        Ok(number) => format!(in alloc; "{word} {number}"),
-        Err(error) => format!(in alloc; "error {error:?}"),
-    }
+/// Whether the host had memory for a text.
+type Put = Result<(), AllocError>;
+
+const NOTHING: &str = "nothing";
+
+const NO_MEMORY: &str = "error OutOfMemory";
+
+/// A command, and what its words are.
+#[derive(Clone, Copy)]
+enum Verb {
+    /// At most two numbers.
+    Call(Call),
+    /// A peer.
+    Line(Line),
+    /// A line of the peer.
+    Hear,
+    /// Whether it asks again for what it asked for before.
+    Query(bool),
+    Step,
+    View,
 }
 
-fn spending(alloc: Global, answer: Result<Spending, DeskError>) -> Reply {
-    match answer {
-        Ok(Spending::Spent(number)) => format!(in alloc; "spent {number}"),
-        Ok(Spending::Queued(ticket)) => format!(in alloc; "queued {ticket}"),
-        Err(error) => format!(in alloc; "error {error:?}"),
-    }
+/// A call under the lock that makes no line.
+#[derive(Clone, Copy)]
+enum Call {
+    Issue,
+    Spend,
+    Take,
+    Serve,
+    Give,
+    Expire,
+    Status,
+    Cancel,
+    Plan,
+    PlanBeside,
+    Close,
 }
 
-fn served(alloc: Global, answer: Result<Option<(u64, u64, u64)>, DeskError>) -> Reply {
-    match answer {
-        Ok(Some((ticket, number, amount))) => {
-            format!(in alloc; "served {ticket} {number} amount {amount}")
+/// A call under the lock that makes a line for a peer.
+#[derive(Clone, Copy)]
+enum Line {
+    Ask,
+    Publish,
+    Beat,
+}
+
+const VERBS: [(&str, Verb); 19] = [
+    ("hear", Verb::Hear),
+    ("step", Verb::Step),
+    ("query", Verb::Query(false)),
+    ("requery", Verb::Query(true)),
+    ("view", Verb::View),
+    ("issue", Verb::Call(Call::Issue)),
+    ("spend", Verb::Call(Call::Spend)),
+    ("take", Verb::Call(Call::Take)),
+    ("serve", Verb::Call(Call::Serve)),
+    ("give", Verb::Call(Call::Give)),
+    ("expire", Verb::Call(Call::Expire)),
+    ("status", Verb::Call(Call::Status)),
+    ("cancel", Verb::Call(Call::Cancel)),
+    ("plan", Verb::Call(Call::Plan)),
+    ("plan_beside", Verb::Call(Call::PlanBeside)),
+    ("close", Verb::Call(Call::Close)),
+    ("ask", Verb::Line(Line::Ask)),
+    ("publish", Verb::Line(Line::Publish)),
+    ("beat", Verb::Line(Line::Beat)),
+];
+
+/// The result of a call that makes no line.
+#[derive(Clone, Copy)]
+enum Said {
+    Word(&'static str),
+    Number(&'static str, u64),
+    /// The ticket, the number and the amount.
+    Served(u64, u64, u64),
+    Error(DeskError),
+}
+
+fn verb_of(name: &str) -> Option<Verb> {
+    for (each, verb) in &VERBS {
+        if *each == name {
+            return Some(*verb);
         }
-        Ok(None) => String::from_str(alloc, "nothing"),
-        Err(error) => format!(in alloc; "error {error:?}"),
     }
+    None
 }
 
-fn outcome(alloc: Global, answer: Status) -> Reply {
-    match answer {
-        Status::Waiting => String::from_str(alloc, "waiting"),
-        Status::Spent(number) => format!(in alloc; "spent {number}"),
-        Status::Expired => String::from_str(alloc, "expired"),
-        Status::Unknown => String::from_str(alloc, "unknown"),
-    }
+// The text before the first space, and after it.
+fn cut(text: &str) -> (&str, &str) {
+    text.split_once(' ').unwrap_or((text, ""))
 }
 
-// A line without its line feed.
-fn shown(alloc: Global, line: &[u8]) -> Reply {
-    let Some(text) = line.strip_suffix(b"\n") else {
-        return String::from_str(alloc, "no line");
-    };
-    match str::from_utf8(text) {
-        Ok(text) => String::from_str(alloc, text),
-        Err(_) => String::from_str(alloc, "no text"),
-    }
+// The number that the text spells, else 0.
+fn number(text: &str) -> u64 {
+    text.parse().unwrap_or(0)
 }
 
-fn line(alloc: Global, answer: Result<Option<Vec<u8>>, OutOfMemory>) -> Reply {
-    match answer {
-        Ok(Some(line)) => shown(alloc, &line),
-        Ok(None) => String::from_str(alloc, "nothing"),
-        Err(OutOfMemory) => String::from_str(alloc, "error OutOfMemory"),
-    }
-}
-
-fn on_query<D: DeskNames>(alloc: Global, kept: &Kept<D>, query: &Query) -> Reply {
-    match kept.on_query(query) {
-        Ok(line) => shown(alloc, &line),
-        Err(error) => format!(in alloc; "error {error:?}"),
-    }
-}
-
-fn asked(alloc: Global, reply: &AskReply) -> Reply {
-    let text = match &reply.line {
-        Some(line) => shown(alloc, line.bytes())?,
-        None => String::new(alloc),
-    };
-    match (reply.answer, reply.number) {
-        (AskAnswer::Grant(_), Some(number)) => format!(in alloc; "granted {number}"),
-        (AskAnswer::Deny | AskAnswer::RepeatedDeny, None) => format!(in alloc; "denied {text}"),
-        (AskAnswer::Repeated, None) => String::from_str(alloc, "repeated"),
-        (AskAnswer::OldAsk, None) => String::from_str(alloc, "old"),
-        _ => String::from_str(alloc, "no answer"),
-    }
-}
-
-fn on_ask<D: DeskNames>(rt: &impl Abort, alloc: Global, kept: &mut Kept<D>, ask: &Ask) -> Reply {
-    assert!(rt; ask.asker().number() <= kept.desk().sites());
-    assert!(rt; ask.asked() == kept.desk().site());
-    match kept.on_ask(ask) {
-        Ok(reply) => asked(alloc, &reply),
-        Err(OutOfMemory) => String::from_str(alloc, "error OutOfMemory"),
-    }
-}
-
-fn on_deny<D: DeskNames>(rt: &impl Abort, alloc: Global, kept: &mut Kept<D>, deny: Deny) -> Reply {
-    assert!(rt; deny.denier().number() <= kept.desk().sites());
-    kept.on_deny(deny.denier(), deny.ask());
-    String::from_str(alloc, "noted")
-}
-
-fn first(numbers: &str) -> u64 {
-    let (word, _) = numbers.split_once(' ').unwrap_or((numbers, ""));
-    word.parse().unwrap_or(0)
-}
-
-fn second(numbers: &str) -> u64 {
-    let (_, word) = numbers.split_once(' ').unwrap_or(("", ""));
-    word.parse().unwrap_or(0)
-}
-
-// The other one of two sites.
+// The one or the other of two sites.
 fn peer(number: u64) -> SiteId {
     SiteId::known(if number == 1 { 1 } else { 2 })
 }
 
+fn put_said(text: &mut String, said: Said) -> Put {
+    match said {
+        Said::Word(word) => text.push_str(word),
+        Said::Number(word, number) => write!(text, "{word} {number}"),
+        Said::Served(ticket, number, amount) => {
+            write!(text, "served {ticket} {number} amount {amount}")
+        }
+        Said::Error(error) => write!(text, "error {error:?}"),
+    }
+}
+
+// A number after a word, or why there is none.
+fn numbered(word: &'static str, answer: Result<u64, DeskError>) -> Said {
+    match answer {
+        Ok(number) => Said::Number(word, number),
+        Err(error) => Said::Error(error),
+    }
+}
+
+fn outcome(status: Status) -> Said {
+    match status {
+        Status::Waiting => Said::Word("waiting"),
+        Status::Spent(number) => Said::Number("spent", number),
+        Status::Expired => Said::Word("expired"),
+        Status::Unknown => Said::Word("unknown"),
+    }
+}
+
 // Calls under the lock, each in a function of its own, as a check of many together takes long.
 
-fn issue<D: DeskNames>(alloc: Global, kept: &mut Kept<D>, seat: &mut Seat<D>, n: u64) -> Reply {
-    numbered(alloc, "number", kept.issue(seat, n))
+fn issue<D: DeskNames>(kept: &mut Kept<D>, seat: &mut Seat<D>, n: u64) -> Said {
+    numbered("number", kept.issue(seat, n))
 }
 
-fn spend<D: DeskNames>(
-    alloc: Global,
-    kept: &mut Kept<D>,
-    seat: &mut Seat<D>,
-    n: u64,
-    deadline: u64,
-) -> Reply {
-    spending(alloc, kept.spend(seat, n, deadline))
+fn spend<D: DeskNames>(kept: &mut Kept<D>, seat: &mut Seat<D>, n: u64, deadline: u64) -> Said {
+    match kept.spend(seat, n, deadline) {
+        Ok(Spending::Spent(number)) => Said::Number("spent", number),
+        Ok(Spending::Queued(ticket)) => Said::Number("queued", ticket),
+        Err(error) => Said::Error(error),
+    }
 }
 
-fn take<D: DeskNames>(alloc: Global, kept: &mut Kept<D>, seat: &mut Seat<D>, n: u64) -> Reply {
-    numbered(alloc, "spent", kept.take(seat, n))
+fn take<D: DeskNames>(kept: &mut Kept<D>, seat: &mut Seat<D>, n: u64) -> Said {
+    numbered("spent", kept.take(seat, n))
 }
 
-fn serve<D: DeskNames>(alloc: Global, kept: &mut Kept<D>, seat: &mut Seat<D>) -> Reply {
-    served(alloc, kept.serve(seat))
+fn serve<D: DeskNames>(kept: &mut Kept<D>, seat: &mut Seat<D>) -> Said {
+    match kept.serve(seat) {
+        Ok(Some((ticket, number, amount))) => Said::Served(ticket, number, amount),
+        Ok(None) => Said::Word(NOTHING),
+        Err(error) => Said::Error(error),
+    }
 }
 
-fn give<D: DeskNames>(alloc: Global, kept: &mut Kept<D>, peer: SiteId, n: u64) -> Reply {
-    numbered(alloc, "number", kept.give_back(peer, n))
+fn give<D: DeskNames>(kept: &mut Kept<D>, peer: SiteId, n: u64) -> Said {
+    numbered("number", kept.give_back(peer, n))
 }
 
-fn expire<D: DeskNames>(alloc: Global, kept: &mut Kept<D>, time: u64) -> Reply {
-    numbered(alloc, "expired", kept.expire(time))
+fn expire<D: DeskNames>(kept: &mut Kept<D>, time: u64) -> Said {
+    numbered("expired", kept.expire(time))
 }
 
-fn status<D: DeskNames>(alloc: Global, kept: &mut Kept<D>, ticket: u64) -> Reply {
-    outcome(alloc, kept.status(ticket))
+fn status<D: DeskNames>(kept: &mut Kept<D>, ticket: u64) -> Said {
+    outcome(kept.status(ticket))
 }
 
-fn cancel<D: DeskNames>(alloc: Global, kept: &mut Kept<D>, ticket: u64) -> Reply {
-    outcome(alloc, kept.cancel(ticket))
+fn cancel<D: DeskNames>(kept: &mut Kept<D>, ticket: u64) -> Said {
+    outcome(kept.cancel(ticket))
+}
+
+fn plan<D: DeskNames>(kept: &mut Kept<D>) -> Said {
+    Said::Number("asks", kept.plan())
 }
 
 // A plan while that peer is silent.
-fn plan_beside<D: DeskNames>(alloc: Global, kept: &mut Kept<D>, peer: SiteId) -> Reply {
+fn plan_beside<D: DeskNames>(kept: &mut Kept<D>, peer: SiteId) -> Said {
     let mut silent = SiteSet::new();
     silent.insert(peer);
-    let asks = kept.plan_beside(&silent);
-    format!(in alloc; "asks {asks}")
+    Said::Number("asks", kept.plan_beside(&silent))
 }
 
-fn plan<D: DeskNames>(alloc: Global, kept: &mut Kept<D>) -> Reply {
-    let asks = kept.plan();
-    format!(in alloc; "asks {asks}")
+// Closes for the heir of this number, if it is one.
+fn close<D: DeskNames>(kept: &mut Kept<D>, heir: u64) -> Said {
+    numbered("number", kept.close(SiteId::new(heir).ok()))
 }
 
-fn close<D: DeskNames>(alloc: Global, kept: &mut Kept<D>, heir: Option<SiteId>) -> Reply {
-    numbered(alloc, "number", kept.close(heir))
-}
-
-fn ask<D: DeskNames>(alloc: Global, kept: &Kept<D>, peer: SiteId) -> Reply {
-    line(alloc, kept.ask_line(peer))
-}
-
-fn publish<D: DeskNames>(alloc: Global, kept: &mut Kept<D>, peer: SiteId) -> Reply {
-    line(alloc, kept.publish(peer))
-}
-
-fn beat<D: DeskNames>(alloc: Global, kept: &Kept<D>, peer: SiteId) -> Reply {
-    match kept.beat_line(peer) {
-        Ok(line) => shown(alloc, &line),
-        Err(OutOfMemory) => String::from_str(alloc, "error OutOfMemory"),
-    }
-}
-
-// A call under the lock, by its name.
-fn command<D: DeskNames>(
-    alloc: Global,
+fn make<D: DeskNames>(
     kept: &mut Kept<D>,
     seat: &mut Seat<D>,
-    verb: &str,
-    words: &str,
-) -> Reply {
-    let number = first(words);
-    match verb {
-        "issue" => issue(alloc, kept, seat, number),
-        "spend" => spend(alloc, kept, seat, number, second(words)),
-        "take" => take(alloc, kept, seat, number),
-        "serve" => serve(alloc, kept, seat),
-        "give" => give(alloc, kept, peer(number), second(words)),
-        "expire" => expire(alloc, kept, number),
-        "status" => status(alloc, kept, number),
-        "cancel" => cancel(alloc, kept, number),
-        "plan" => plan(alloc, kept),
-        "plan_beside" => plan_beside(alloc, kept, peer(number)),
-        "close" if words.is_empty() => close(alloc, kept, None),
-        "close" => close(alloc, kept, Some(peer(number))),
-        "ask" => ask(alloc, kept, peer(number)),
-        "publish" => publish(alloc, kept, peer(number)),
-        "beat" => beat(alloc, kept, peer(number)),
-        _ => totals(alloc, kept),
+    call: Call,
+    first: u64,
+    second: u64,
+) -> Said {
+    match call {
+        Call::Issue => issue(kept, seat, first),
+        Call::Spend => spend(kept, seat, first, second),
+        Call::Take => take(kept, seat, first),
+        Call::Serve => serve(kept, seat),
+        Call::Give => give(kept, peer(first), second),
+        Call::Expire => expire(kept, first),
+        Call::Status => status(kept, first),
+        Call::Cancel => cancel(kept, first),
+        Call::Plan => plan(kept),
+        Call::PlanBeside => plan_beside(kept, peer(first)),
+        Call::Close => close(kept, first),
     }
 }
 
-fn totals<D: DeskNames>(alloc: Global, kept: &Kept<D>) -> Reply {
-    let view = kept.view();
+// Adds a line without its line feed.
+fn put_bytes(text: &mut String, line: &[u8]) -> Put {
+    let line = str::from_utf8(line).unwrap_or("");
+    text.push_str(line.strip_suffix('\n').unwrap_or("no line"))
+}
+
+// Adds a line, if there is one.
+fn put_line(text: &mut String, line: Result<Option<Vec<u8>>, OutOfMemory>) -> Put {
+    match line {
+        Ok(Some(line)) => put_bytes(text, &line),
+        Ok(None) => text.push_str(NOTHING),
+        Err(OutOfMemory) => text.push_str(NO_MEMORY),
+    }
+}
+
+fn put_beat<D: DeskNames>(text: &mut String, kept: &Kept<D>, peer: SiteId) -> Put {
+    match kept.beat_line(peer) {
+        Ok(line) => put_bytes(text, &line),
+        Err(OutOfMemory) => text.push_str(NO_MEMORY),
+    }
+}
+
+fn put_line_to<D: DeskNames>(
+    text: &mut String,
+    kept: &mut Kept<D>,
+    line: Line,
+    peer: SiteId,
+) -> Put {
+    match line {
+        Line::Ask => put_line(text, kept.ask_line(peer)),
+        Line::Publish => put_line(text, kept.publish(peer)),
+        Line::Beat => put_beat(text, kept, peer),
+    }
+}
+
+fn put_totals(text: &mut String, view: &DeskView) -> Put {
     let (issued, spent, given) = (view.issued, view.spent, view.given);
+    write!(text, "issued {issued} spent {spent} given {given}")?;
     let (back, received, held) = (view.back, view.received, view.held);
-    format!(in alloc;
-        "issued {issued} spent {spent} given {given} back {back} received {received} held {held}"
-    )
+    write!(text, " back {back} received {received} held {held}")
+}
+
+// Adds the desk's reply to the content of a line.
+fn put_arrived<D: DeskNames>(text: &mut String, kept: &mut Kept<D>, arrived: Arrived) -> Put {
+    match arrived {
+        Arrived::Entries(counts) => put_counts(text, counts),
+        Arrived::Beat(_) => text.push_str("beat"),
+        Arrived::Hello => text.push_str("hello"),
+        Arrived::Message(message) => put_message(text, kept, message),
+    }
+}
+
+fn put_message<D: DeskNames>(text: &mut String, kept: &mut Kept<D>, message: DeskMessage) -> Put {
+    match message {
+        DeskMessage::Query(query) => put_answer(text, kept, &query),
+        DeskMessage::Ask(ask) => put_granted(text, kept, &ask),
+        DeskMessage::Deny(deny) => text.push_str(denied(kept, deny)),
+    }
+}
+
+fn put_counts(text: &mut String, counts: VerdictCounts) -> Put {
+    let (ready, held, repeat) = (counts.ready, counts.held, counts.repeat);
+    write!(text, "ready {ready} held {held} repeat {repeat}")
+}
+
+fn put_answer<D: DeskNames>(text: &mut String, kept: &Kept<D>, query: &Query) -> Put {
+    match kept.on_query(query) {
+        Ok(line) => put_bytes(text, &line),
+        Err(error) => write!(text, "error {error:?}"),
+    }
+}
+
+fn put_granted<D: DeskNames>(text: &mut String, kept: &mut Kept<D>, ask: &Ask) -> Put {
+    if ask.asker().number() > kept.desk().sites() || ask.asked() != kept.desk().site() {
+        return text.push_str("no peer");
+    }
+    match kept.on_ask(ask) {
+        Ok(reply) => put_ask_reply(text, &reply),
+        Err(OutOfMemory) => text.push_str(NO_MEMORY),
+    }
+}
+
+fn put_ask_reply(text: &mut String, reply: &AskReply) -> Put {
+    match (reply.answer, reply.number) {
+        (AskAnswer::Grant(_), Some(number)) => put_said(text, Said::Number("granted", number)),
+        (AskAnswer::Deny | AskAnswer::RepeatedDeny, None) => put_denial(text, reply),
+        (AskAnswer::Repeated, None) => text.push_str("repeated"),
+        (AskAnswer::OldAsk, None) => text.push_str("old"),
+        _ => text.push_str("no answer"),
+    }
+}
+
+fn put_denial(text: &mut String, reply: &AskReply) -> Put {
+    text.push_str("denied ")?;
+    match &reply.line {
+        Some(line) => put_bytes(text, line.bytes()),
+        None => Ok(()),
+    }
+}
+
+fn denied<D: DeskNames>(kept: &mut Kept<D>, deny: Deny) -> &'static str {
+    if deny.denier().number() > kept.desk().sites() {
+        return "no peer";
+    }
+    kept.on_deny(deny.denier(), deny.ask());
+    "noted"
+}
+
+// These words as a line.
+fn line_of(alloc: Global, words: &str) -> Result<String, AllocError> {
+    let mut line = String::from_str(alloc, words)?;
+    line.push('\n')?;
+    Ok(line)
 }
 
 impl<D: DeskNames> Site<D> {
-    /// The site's reply to a command.
-    pub(crate) fn plays<R: Wait + Clock + Abort>(
+    /// Adds the site's reply to a command.
+    pub(crate) fn put_reply<R: Wait + Clock + Abort>(
         &mut self,
         rt: &R,
         alloc: Global,
-        text: &str,
-    ) -> Reply {
-        let (verb, words) = text.split_once(' ').unwrap_or((text, ""));
-        match verb {
-            "hear" => self.hear(rt, alloc, words),
-            "query" => line(alloc, self.intake.query_line(false)),
-            "requery" => line(alloc, self.intake.query_line(true)),
-            "step" => self.steps(rt, alloc),
-            _ => {
-                let mut kept = self.desk.lock(rt);
-                command(alloc, &mut kept, &mut self.seat, verb, words)
-            }
+        text: &mut String,
+        command: &str,
+    ) -> Put {
+        let (name, words) = cut(command);
+        match verb_of(name) {
+            Some(Verb::Call(call)) => put_said(text, self.say(rt, call, words)),
+            Some(Verb::Line(line)) => self.put_line_to(rt, text, line, number(words)),
+            Some(Verb::Hear) => self.hear(rt, alloc, text, words),
+            Some(Verb::Query(again)) => put_line(text, self.intake.query_line(again)),
+            Some(Verb::Step) => self.step(rt, text),
+            Some(Verb::View) => put_totals(text, &self.view(rt)),
+            None => text.push_str("no command"),
         }
+    }
+
+    fn say<R: Wait>(&mut self, rt: &R, call: Call, words: &str) -> Said {
+        let (first, second) = cut(words);
+        let mut kept = self.desk.lock(rt);
+        make(
+            &mut kept,
+            &mut self.seat,
+            call,
+            number(first),
+            number(second),
+        )
+    }
+
+    fn put_line_to<R: Wait>(&mut self, rt: &R, text: &mut String, line: Line, to: u64) -> Put {
+        let mut kept = self.desk.lock(rt);
+        put_line_to(text, &mut kept, line, peer(to))
     }
 
     // Takes an entry from the lane, and applies or drops it.
-    fn steps<R: Wait + Clock>(&mut self, rt: &R, alloc: Global) -> Reply {
+    fn step<R: Wait + Clock>(&mut self, rt: &R, text: &mut String) -> Put {
         let answer = self.applier.step(rt, &self.desk);
-        format!(in alloc; "{answer:?}")
+        write!(text, "{answer:?}")
     }
 
-    fn hear<R: Wait + Abort>(&mut self, rt: &R, alloc: Global, text: &str) -> Reply {
-        let line = format!(in alloc; "{text}\n")?;
+    fn view<R: Wait>(&self, rt: &R) -> DeskView {
+        self.desk.lock(rt).view()
+    }
+
+    fn hear<R: Wait + Abort>(
+        &mut self,
+        rt: &R,
+        alloc: Global,
+        text: &mut String,
+        words: &str,
+    ) -> Put {
+        let line = line_of(alloc, words).expect(rt, "memory");
         match self.intake.on_line(rt, line.as_bytes()) {
-            Ok(arrived) => {
-                let mut kept = self.desk.lock(rt);
-                answered(rt, alloc, &mut kept, arrived)
-            }
-            Err(error) => format!(in alloc; "error {error:?}"),
+            Ok(arrived) => self.put_arrived(rt, text, arrived),
+            Err(error) => write!(text, "error {error:?}"),
         }
     }
-}
 
-// The desk's reply to the content of a line.
-fn answered<D: DeskNames, R: Abort>(
-    rt: &R,
-    alloc: Global,
-    kept: &mut Kept<D>,
-    arrived: Arrived,
-) -> Reply {
-    match arrived {
-        Arrived::Entries(counts) => {
-            let (ready, held, repeat) = (counts.ready, counts.held, counts.repeat);
-            format!(in alloc; "ready {ready} held {held} repeat {repeat}")
-        }
-        Arrived::Beat(_) => String::from_str(alloc, "beat"),
-        Arrived::Hello => String::from_str(alloc, "hello"),
-        Arrived::Message(message) => on_message(rt, alloc, kept, message),
-    }
-}
-
-// The desk's reply to a message.
-fn on_message<D: DeskNames, R: Abort>(
-    rt: &R,
-    alloc: Global,
-    kept: &mut Kept<D>,
-    message: DeskMessage,
-) -> Reply {
-    match message {
-        DeskMessage::Query(query) => on_query(alloc, kept, &query),
-        DeskMessage::Ask(ask) => on_ask(rt, alloc, kept, &ask),
-        DeskMessage::Deny(deny) => on_deny(rt, alloc, kept, deny),
+    fn put_arrived<R: Wait>(&mut self, rt: &R, text: &mut String, arrived: Arrived) -> Put {
+        let mut kept = self.desk.lock(rt);
+        put_arrived(text, &mut kept, arrived)
     }
 }
