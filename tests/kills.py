@@ -344,14 +344,14 @@ os.execv({program!r}, [{program!r}, *sys.argv[1:]])
 WITHOUT = 'batches = [[it for it in records if it[0] != "%s"] for records in batches]'
 LOST = (
     "given out twice|no such number|told twice|two entries|which is|went_back|not within|in no journal|"
-    "started once more|what site [0-9]+ applied of site"
+    "started once more|what site [0-9]+ applied of site|keys that are told"
 )
 WRONG = {
     "its last batch": ("del batches[-1:]", LOST),
     "all that it did": ("del batches[1:]", LOST),
     "its tickets": (WITHOUT % "T", "ticket [0-9]+ is given out twice"),
     "its asks": (WITHOUT % "W", "in no journal|is for|granted twice|grants more"),
-    "its keys": (WITHOUT % "X", "and number [0-9]+ before|more entries than commands"),
+    "its keys": (WITHOUT % "X", "and number [0-9]+ before|more entries than commands|keys that are told"),
 }
 
 
