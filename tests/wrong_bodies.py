@@ -9,14 +9,15 @@ and cannot open their bodies: what is proved or refused of one function is the s
 others. An edit counts as refused only if a goal of the function that it changes is refused; that the function calls
 another one that is not proved says nothing. An edit of a definition, of a contract or of a cycle of calls is tried
 alone, and so is one of which the check of several says nothing. The file must-fail/refused.txt says of such an edit
-which functions to check first; if these are proved all the same, the whole crate is checked.
+which functions to check first; if these are proved all the same, the whole crate is checked. For the same reason the
+functions that a check is not about have no bodies in it: what they call would be proved too.
 
 FOLDER has the libraries below the crates, as `rt` (NAME/out/rlib/NAME.rlib) or `./build` (NAME.rlib) makes them, and each
 check begins with nothing else. Where it is not given, they are those that `rt` or else `./build` made here, and a check
 begins with what `rt check` kept. `--beside` has `rt ci` make them meanwhile: a crate waits until all below it are proved,
 by what LOG, the output of `rt ci`, says, or until the file END is there, and half of the processors are used till then. A
 crate whose edits were all refused before is passed over if nothing that they stand on has changed. Prints a line for each
-edit, the processor time of each crate, and as the last line 'N passed, M failed'.
+edit, with the processor time of its function's proof, that of each crate, and as the last line 'N passed, M failed'.
 """
 
 import hashlib
@@ -32,14 +33,18 @@ import time
 from collections import Counter
 from concurrent.futures import ThreadPoolExecutor
 from dataclasses import dataclass, field
-from functools import cache
 from importlib.machinery import SourceFileLoader
 from importlib.util import module_from_spec, spec_from_loader
 from pathlib import Path
 
+from functions import NO_BODY, OWN_PROOF, function_at, functions_of, hollow
+from processes import Process
+
 TOP = Path(__file__).resolve().parent.parent
 # What one check of one job takes at most, in bytes.
 MEMORY = 5_000_000_000
+# The costliest wrong bodies that are printed.
+MOST = 40
 REFUSED, MISSED, BAD, UNSURE = "refused", "missed", "bad", "unsure"
 # What an edit takes from a proof that names it: this says little of a contract.
 NAMES = re.compile(r"has no field|is not in scope|has no `|was not admitted")
@@ -70,123 +75,14 @@ class Edit:
     texts: dict = field(default_factory=dict)
     pairs: list = field(default_factory=list)
     fault: str = ""
-    function: "Function | None" = None
+    function: "functions.Function | None" = None
     refused: list = field(default_factory=list)
+    # The processor time of its function in a check of several, or of its own checks.
+    seconds: float = 0.0
 
     @property
     def label(self):
         return f"must-fail {self.crate}/{self.name}.edit"
-
-
-@dataclass(frozen=True)
-class Function:
-    """A function by its lines in a file, and by the names that a check prints for it and for its closures."""
-
-    file: str
-    lines: range
-    modules: tuple
-    owner: str
-    name: str
-    # Whether no other function of the crate has this name, and no module.
-    is_alone: bool
-
-    def is_named(self, path):
-        """Whether a check means this function, or a closure in it, by this path. That of a method begins with the
-        module of its type."""
-        modules = "::".join(self.modules)
-        if not self.owner:
-            return re.fullmatch(rf"{modules}::{self.name}|{modules}::fn::{self.name}::.*", path) is not None
-        crate, owner = self.modules[0], rf"{self.owner}\w*"
-        return re.fullmatch(rf"{crate}::(?:\w+::)*(?:fn::)?{owner}::{self.name}(?:::.*)?", path) is not None
-
-    def has_proof(self, path):
-        """Whether a file of proofs is of this function, or of a closure in it."""
-        if self.owner:
-            return re.match(rf"proofs/(?:\w+/)*{self.owner}\w*/{self.name}/", path) is not None
-        folder = "/".join(["proofs", *self.modules[1:]])
-        return re.match(rf"{folder}/(?:fn/)?{self.name}/", path) is not None
-
-    def query(self):
-        """What `--only` takes for it: the end of its name. A check may number the owners that have the same name."""
-        if self.is_alone:
-            return self.name
-        return "::".join([*([self.owner] if self.owner else self.modules[1:]), self.name])
-
-
-FUNCTION = re.compile(r"\s*(?:pub(?:\([^)]*\))? )?(?:const )?(?:unsafe )?fn (\w+)")
-BLOCK = re.compile(r"\s*(?:unsafe )?(?:pub )?(?:impl|trait|mod)\b")
-
-
-def indent_of(line):
-    return len(line) - len(line.lstrip(" "))
-
-
-def lines_around(lines, number):
-    """The numbers of the lines that a line is inside of, from within, by the indentation that `rt fmt` gives."""
-    depth = indent_of(lines[number])
-    for at in range(number - 1, -1, -1):
-        line = lines[at]
-        if line.strip() and indent_of(line) < depth:
-            yield at
-            # A body after clauses begins with a brace alone, and long lists of parameters end with a bracket, as far in as
-            # `fn`.
-            depth = indent_of(line) + bool(re.match(r"\s*(\{$|\)|>|where\b)", line))
-
-
-def is_in_cycle(lines, at):
-    """Whether the function that begins there is part of a cycle of calls, which has one proof."""
-    above = at - 1
-    while above >= 0 and lines[above].strip().startswith(("#", "//")):
-        if "#[cycle" in lines[above]:
-            return True
-        above -= 1
-    return False
-
-
-def function_at(crate, file, lines, number):
-    """The function whose body has this line. None where it is part of no body, or of a function in a cycle of calls."""
-    around = list(lines_around(lines, number))
-    at = next((it for it in around if FUNCTION.match(lines[it])), None)
-    if at is None or is_in_cycle(lines, at):
-        return None
-    opens = (it for it in range(at, number) if lines[it].rstrip().endswith("{") and indent_of(lines[it]) == indent_of(lines[at]))
-    if next(opens, None) is None:
-        return None
-    block = next((it for it in around if it < at and BLOCK.match(lines[it])), None)
-    owner = owner_of(header_at(lines, block)) if block is not None else ""
-    if owner is None:
-        return None
-    ends = (it for it in range(number, len(lines)) if lines[it].strip() == "}" and indent_of(lines[it]) == indent_of(lines[at]))
-    inside = Path(file).relative_to("src").with_suffix("").parts
-    modules = (crate, *(() if inside == ("lib",) else inside))
-    name = FUNCTION.match(lines[at])[1]
-    return Function(file, range(at + 1, next(ends, number) + 2), modules, owner, name, names_in(crate)[name] == 1)
-
-
-@cache
-def names_in(crate):
-    """How often each name is that of a function or a module of a crate."""
-    files = list((build.CRATES / crate / "src").rglob("*.rt"))
-    lines = (line for file in files for line in file.read_text().split("\n"))
-    return Counter([*(it.stem for it in files), *(found[1] for line in lines if (found := FUNCTION.match(line)))])
-
-
-def header_at(lines, block):
-    """The header of a block, in one line."""
-    end = next((it for it in range(block, len(lines)) if "{" in lines[it]), block)
-    return " ".join(it.strip() for it in lines[block : end + 1])
-
-
-def owner_of(header):
-    """The name of what a block is about, as a check prints it: a type, or a type with the trait that it implements."""
-    header = re.sub(r"<[^<>]*>", "", header)
-    while "<" in header and header != (header := re.sub(r"<[^<>]*>", "", header)):
-        pass
-    found = re.match(r"\s*(?:unsafe )?impl\s*(?:([\w:]+) for )?&?(?:'\w+ )?(?:mut )?([\w:]+)", header)
-    if not found:
-        return None
-    kind = found[2].split("::")[-1]
-    return kind + (found[1].split("::")[-1] if found[1] else "")
 
 
 def read_edit(crate, path, folder):
@@ -241,10 +137,11 @@ def changed(edits, folder):
 
 @dataclass
 class Check:
-    """What a check said, and its status."""
+    """What a check said, its status, and the processor time of each function in it."""
 
     said: str
     status: int
+    seconds: Counter
 
     def lines(self):
         return self.said.rstrip("\n").split("\n")
@@ -255,7 +152,7 @@ class Crate:
 
     def __init__(self, name, used, libraries, kept, kit):
         self.name, self.folder, self.used, self.kept = name, build.CRATES / name, used[name], kept
-        self.libraries, self.kit, self.seconds = libraries, kit, 0.0
+        self.libraries, self.kit, self.seconds, self.found = libraries, kit, 0.0, None
 
     def stamp(self):
         """Where the digest stands of what all edits were refused over."""
@@ -264,6 +161,8 @@ class Crate:
     def digest(self):
         """A sum of all that the verdicts on the edits depend on."""
         found = hashlib.sha256(f"{self.kit.rattle.stat().st_mtime_ns} {self.used}\n".encode())
+        for script in ("wrong_bodies.py", "functions.py"):
+            found.update(Path(__file__).with_name(script).read_bytes())
         for name, library in sorted(self.libraries.items()):
             found.update(f"{name}\n".encode() + (library / "format").read_bytes())
         files = (it for part in (*build.SOURCES, "must-fail") for it in (self.folder / part).rglob("*") if it.is_file())
@@ -281,24 +180,64 @@ class Crate:
         logic = ["--antt-project", self.kit.logic, "--logic-built", self.kit.logic_built]
         return [*words, *logic, "--jobs", "1"]
 
-    def check(self, texts, more):
-        """Checks a copy of the crate with these texts in place of its own."""
+    def check(self, texts, more, is_kept=None):
+        """Checks a copy of the crate with these texts in place of its own. is_kept: which functions keep their bodies, if not
+        all do."""
         with tempfile.TemporaryDirectory(prefix="wrong-body-") as room:
             for part in build.SOURCES:
                 if (self.folder / part).is_dir():
                     shutil.copytree(self.folder / part, f"{room}/{part}")
             for file, text in texts.items():
                 Path(room, file).write_text(text)
-            with tempfile.TemporaryFile("w+", errors="replace") as out:
-                begun = subprocess.Popen(
-                    [*self.words(), *more], cwd=room, stdin=subprocess.DEVNULL, stdout=out, stderr=subprocess.STDOUT
-                )
-                _, status, usage = os.wait4(begun.pid, 0)
-                begun.returncode = os.waitstatus_to_exitcode(status)
-                out.seek(0)
-                said = out.read()
+            if is_kept:
+                self.hollow_out(Path(room), is_kept)
+            begun = subprocess.Popen(
+                [*self.words(), "--progress", *more],
+                cwd=room,
+                stdin=subprocess.DEVNULL,
+                stdout=subprocess.PIPE,
+                stderr=subprocess.STDOUT,
+                text=True,
+                errors="replace",
+            )
+            said, seconds = self.follow(begun)
+            _, status, usage = os.wait4(begun.pid, 0)
+            begun.returncode = os.waitstatus_to_exitcode(status)
         self.seconds += usage.ru_utime + usage.ru_stime
-        return Check(said, begun.returncode)
+        return Check(said, begun.returncode, seconds)
+
+    def follow(self, check):
+        """What a check says, and the processor time of each function."""
+        said, seconds, last = [], Counter(), 0.0
+        with check.stdout as lines:
+            for line in lines:
+                said.append(line)
+                if found := re.match(r"checked (.*), \d+ of \d+$", line):
+                    now = Process(check.pid).seconds
+                    seconds[found[1]] += now - last
+                    last = now
+        return "".join(said), seconds
+
+    def functions(self):
+        """The functions whose bodies a check can do without, each with the lines of its body."""
+        if self.found is None:
+            files = ((it, str(it.relative_to(self.folder))) for it in sorted((self.folder / "src").rglob("*.rt")))
+            self.found = [it for path, file in files for it in functions_of(self.name, file, path.read_text())]
+        return self.found
+
+    def hollow_out(self, room, is_kept):
+        """Takes the bodies from a copy of the crate, but those that are kept, and the proofs of the others."""
+        kept = [it for it, _ in self.functions() if is_kept(it)]
+        emptied = [(it, body) for it, body in self.functions() if not is_kept(it)]
+        for file in {it.file for it, _ in emptied}:
+            text = (room / file).read_text()
+            (room / file).write_text(hollow(text, [body for it, body in emptied if it.file == file]))
+        with (room / "src/lib.rt").open("a") as lib:
+            lib.write(NO_BODY)
+        for path in (it for name in OWN_PROOF for it in room.glob(f"proofs/**/{name}")):
+            proof = str(path.relative_to(room))
+            if any(it.has_proof(proof) for it, _ in emptied) and not any(it.has_proof(proof) for it in kept):
+                path.unlink()
 
     def edits(self):
         paths = sorted((self.folder / "must-fail").glob("*.edit"))
@@ -408,12 +347,23 @@ class Trial:
         return group, others
 
     def check(self, texts, functions):
-        """Checks the crate with these texts: these functions alone, by the ends of their names, if there are any."""
+        """Checks the crate with these texts: these functions alone, by the ends of their names, if there are any. The others
+        have no bodies then: those that these call would be checked too."""
         only = [it for function in functions for it in ("--only", function)]
         words = ["--incremental", self.room, *only]
-        check = self.crate.check(texts, words)
+        is_kept = self.keeps(functions)
+        check = self.crate.check(texts, words, is_kept)
         # Most likely for want of memory.
-        return self.crate.check(texts, words) if check.status == -signal.SIGKILL else check
+        return self.crate.check(texts, words, is_kept) if check.status == -signal.SIGKILL else check
+
+    def keeps(self, functions):
+        """Which functions keep their bodies in a check of some, by the ends of their names. None where all must."""
+        found = [it for it, _ in self.crate.functions()]
+        # A name that is that of no body may be written otherwise here.
+        unknown = [it for it in functions if not any(other.ends_with(it) for other in found)]
+        if not functions or any(it.split("::")[-1] == other.name for it in unknown for other in found):
+            return None
+        return lambda function: any(function.ends_with(name) for name in functions)
 
     def together(self, group):
         """Tries several edits in one check. Answers those of which it says nothing."""
@@ -433,6 +383,7 @@ class Trial:
             half = len(group) // 2
             return undecided + self.together(group[:half]) + self.together(group[half:])
         for edit in group:
+            edit.seconds = sum(took for path, took in check.seconds.items() if edit.function.is_named(path))
             verdict = verdict_on(edit, check)
             if verdict is None:
                 undecided.append(edit)
@@ -442,9 +393,11 @@ class Trial:
 
     def alone(self, edit):
         """Tries one edit. What is no body may matter anywhere in the crate."""
+        begun = self.crate.seconds
         check = self.check(edit.texts, edit.refused)
         if edit.refused and check.status != 1:
             check = self.check(edit.texts, [])
+        edit.seconds += self.crate.seconds - begun
         self.settle(edit, *verdict_alone(check))
 
 
@@ -490,7 +443,7 @@ class Reports:
     def report(self, edit, kind, why):
         with self.lock:
             self.counts[kind] += 1
-            print(f"{edit.label}: {self.TEXTS[kind]}{': ' if why else ''}{why}", flush=True)
+            print(f"{edit.label}: {self.TEXTS[kind]} ({edit.seconds:.0f} s){': ' if why else ''}{why}", flush=True)
 
     def pass_over(self, crate, edits):
         with self.lock:
@@ -558,6 +511,10 @@ class Lanes:
 
 def try_all(trials, proofs):
     Lanes(trials, proofs).run()
+    edits = sorted((it for trial in trials for it in trial.edits), key=lambda it: -it.seconds)
+    print("Processor time in seconds, of the costliest wrong bodies:")
+    for edit in edits[:MOST]:
+        print(f"{edit.seconds:8.0f}  {edit.crate}/{edit.name}")
     print("Processor time in seconds, wrong bodies, crate:")
     for trial in sorted(trials, key=lambda it: -it.crate.seconds):
         print(f"{trial.crate.seconds:8.0f}  {len(trial.edits):4}  {trial.crate.name}")
