@@ -135,7 +135,7 @@ fn command_in(text: Option<&[u8]>, time: Option<u64>) -> Option<SiteCommand>
 
 /// The same, read up to its key.
 #[inline(always)]
-fn line_in(text: Option<&[u8]>, time: Option<u64>) -> Option<SiteLine<'_>>
+pub(crate) fn line_in(text: Option<&[u8]>, time: Option<u64>) -> Option<SiteLine<'_>>
     ensures { command_left time result ≡ given time text.entry }
 {
     read_line(text?, time)
@@ -476,7 +476,7 @@ impl<'a, D: DeskNames, R: Wait, P: Peers + Drop, B: TickSignal + Drop> SiteClien
 
     /// Answers a line, by its command with no key. `quit` is not a command.
     #[inline(always)]
-    fn answer_bare<A: Allocator>(
+    pub(crate) fn answer_bare<A: Allocator>(
         &mut self,
         command: BareCommand,
         replies: &mut Replies<A>,

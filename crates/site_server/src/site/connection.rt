@@ -1,11 +1,14 @@
 //! A client of a site over a connection.
 ghost use Rattle.std.specs.Prelude.{◌≡◌, ◌+◌, ◌≤◌, ◌⊎◌, [], List, ℕ, length, Some, IfOk, OnOk, OnErr};
+ghost use Rattle.line_streams.specs.Handling.{IsGiven};
 ghost use Rattle.line_streams.specs.Waiting.{AddsReply};
+ghost use Rattle.line_streams.specs.Words.{words_left};
+ghost use Rattle.site_words.specs.Commands.{keyed_in};
 ghost use Rattle.site_words.specs.declared.commands.SiteCommand.TheVariants.{Bare};
-ghost use Rattle.site_server.specs.Connections.{Tells, TellsSettled, TellsBy};
-ghost use Rattle.site_server.specs.Replying.{under};
+ghost use Rattle.site_server.specs.Connections.{Answers, Tells, TellsSettled, TellsBy};
+ghost use Rattle.site_server.specs.Replying.{given, under};
 
-use crate::site::client::SiteClient;
+use crate::site::client::{SiteClient, line_in};
 use crate::site::tick_signal::TickSignal;
 use apply_lanes::DeskNames;
 use command_keys::Key;
@@ -14,7 +17,7 @@ use refusals::Answered;
 use rights_types::OutOfMemory;
 use site_http::Backend;
 use site_node::{Peers, TICK_ROOM};
-use site_words::{BareCommand, SiteCommand, with_key};
+use site_words::{BareCommand, SiteCommand, SiteLine, read_keyed, with_key};
 use std::alloc::Global;
 use std::sync::Wait;
 
@@ -39,6 +42,73 @@ impl<D: DeskNames, R: Wait, P: Peers + Drop, B: TickSignal + Drop> SiteClient<'_
             return Err(OutOfMemory);
         }
         self.answer_command(command, replies)
+    }
+
+    /// The same for a line of a request with no key, read at this time; `None` is passed for a line that is too long. A
+    /// command with no key is read and handed on without room for one, which takes less time.
+    #[inline(always)]
+    fn tell_line(
+        &mut self,
+        text: Option<&[u8]>,
+        time: Option<u64>,
+        replies: &mut Replies<Global>,
+    ) -> Result<Answered, OutOfMemory>
+        requires { replies.old.part ≡ [] }
+        ensures ok { IfOk result (λ how. (reply : List ℕ)
+            × Tells P.size P.sends P.stops D.id (given time text.entry) self.old.seat self.old.peers
+            (record { text = reply; how = how }) self.new.seat self.new.peers
+            × AddsReply replies.old replies.new reply) }
+        ensures short { OnOk result ((length replies.new.whole ≤ length replies.old.whole + TICK_ROOM)
+            ⊎ (self.new ≡ self.old)) }
+        ensures err { OnErr result (self.new ≡ self.old) }
+    {
+        match line_in(text, time) {
+            Some(SiteLine::Command(command)) => self.tell_bare(command, replies),
+            Some(SiteLine::AfterKey(words)) => self.tell_keyed(words, time, replies),
+            None => self.tell(None, replies),
+        }
+    }
+
+    /// The same for a command with no key.
+    #[inline(always)]
+    fn tell_bare(
+        &mut self,
+        command: BareCommand,
+        replies: &mut Replies<Global>,
+    ) -> Result<Answered, OutOfMemory>
+        requires { replies.old.part ≡ [] }
+        ensures ok { IfOk result (λ how. (text : List ℕ)
+            × Tells P.size P.sends P.stops D.id (Some (Bare command)) self.old.seat self.old.peers
+            (record { text = text; how = how }) self.new.seat self.new.peers
+            × AddsReply replies.old replies.new text) }
+        ensures short { OnOk result ((length replies.new.whole ≤ length replies.old.whole + TICK_ROOM)
+            ⊎ (self.new ≡ self.old)) }
+        ensures err { OnErr result (self.new ≡ self.old) }
+    {
+        if self.site.is_over() {
+            return Err(OutOfMemory);
+        }
+        self.answer_bare(command, replies)
+    }
+
+    /// The same for a line that names its key, by the words after `key`.
+    #[inline(never)]
+    fn tell_keyed(
+        &mut self,
+        words: Option<&[u8]>,
+        time: Option<u64>,
+        replies: &mut Replies<Global>,
+    ) -> Result<Answered, OutOfMemory>
+        requires { replies.old.part ≡ [] }
+        ensures ok { IfOk result (λ how. (text : List ℕ)
+            × Tells P.size P.sends P.stops D.id (keyed_in time (words_left words.entry)) self.old.seat self.old.peers
+            (record { text = text; how = how }) self.new.seat self.new.peers
+            × AddsReply replies.old replies.new text) }
+        ensures short { OnOk result ((length replies.new.whole ≤ length replies.old.whole + TICK_ROOM)
+            ⊎ (self.new ≡ self.old)) }
+        ensures err { OnErr result (self.new ≡ self.old) }
+    {
+        self.tell(read_keyed(words, time), replies)
     }
 
     /// The same for a client that waits for the outcome of a spend.
@@ -124,6 +194,30 @@ impl<D: DeskNames, R: Wait, P: Peers + Drop, B: TickSignal + Drop> SiteClient<'_
             self.tell(command, replies)
         }
     }
+
+    /// Answers a line of a request, by the key of the request and by whether the client waits.
+    fn tell_request(
+        &mut self,
+        key: Option<Key>,
+        waits: bool,
+        text: Option<&[u8]>,
+        replies: &mut Replies<Global>,
+    ) -> Result<Answered, OutOfMemory>
+        requires { replies.old.part ≡ [] }
+        ensures ok { IfOk result (λ how. (line : List ℕ) → IsGiven line text.entry
+            → (reply : List ℕ) × Answers P.size P.sends P.stops B.has_ended B.has_left B.shows D.id key waits self.old line
+            (record { text = reply; how = how }) self.new × AddsReply replies.old replies.new reply) }
+        ensures short { OnOk result ((length replies.new.whole ≤ length replies.old.whole + TICK_ROOM)
+            ⊎ (self.new ≡ self.old)) }
+        ensures err { OnErr result (self.new ≡ self.old) }
+    {
+        if key.is_none() && !waits {
+            let time = self.signal.time();
+            return self.tell_line(text, time, replies);
+        }
+        let command = under(key, self.command_in(text));
+        self.tell_by(waits, command, replies)
+    }
 }
 
 /// The command under the key of its request, if that has one.
@@ -139,7 +233,6 @@ fn under(key: Option<Key>, command: Option<SiteCommand>) -> Option<SiteCommand>
 impl<D: DeskNames, R: Wait, P: Peers + Drop, B: TickSignal + Drop> Backend
     for SiteClient<'_, D, R, P, B> {
     ghost use Rattle.site_server.specs.Replying.{TellsLog, TellsPeers, TellsQueue, TellsStatus};
-    ghost use Rattle.site_server.specs.Connections.{Answers};
     ghost use Rattle.site_server.specs.Measuring.{TellsMetrics, TellsClosed};
 
     ghost answers = { Answers P.size P.sends P.stops B.has_ended B.has_left B.shows D.id };
@@ -163,8 +256,7 @@ impl<D: DeskNames, R: Wait, P: Peers + Drop, B: TickSignal + Drop> Backend
         text: Option<&[u8]>,
         replies: &mut Replies<Global>,
     ) -> Result<Answered, OutOfMemory> {
-        let command = under(key, self.command_in(text));
-        let answered = self.tell_by(waits, command, replies)?;
+        let answered = self.tell_request(key, waits, text, replies)?;
         self.count(answered);
         Ok(answered)
     }
