@@ -33,11 +33,12 @@ import time
 from collections import Counter
 from concurrent.futures import ThreadPoolExecutor
 from dataclasses import dataclass, field
+from functools import cached_property
 from importlib.machinery import SourceFileLoader
 from importlib.util import module_from_spec, spec_from_loader
 from pathlib import Path
 
-from functions import NO_BODY, OWN_PROOF, function_at, functions_of, hollow
+from functions import NO_BODY, OWN_PROOF, Function, function_at, functions_of, hollow
 from processes import Process
 
 TOP = Path(__file__).resolve().parent.parent
@@ -75,7 +76,7 @@ class Edit:
     texts: dict = field(default_factory=dict)
     pairs: list = field(default_factory=list)
     fault: str = ""
-    function: "functions.Function | None" = None
+    function: Function | None = None
     refused: list = field(default_factory=list)
     # The processor time of its function in a check of several, or of its own checks.
     seconds: float = 0.0
@@ -152,7 +153,7 @@ class Crate:
 
     def __init__(self, name, used, libraries, kept, kit):
         self.name, self.folder, self.used, self.kept = name, build.CRATES / name, used[name], kept
-        self.libraries, self.kit, self.seconds, self.found = libraries, kit, 0.0, None
+        self.libraries, self.kit, self.seconds = libraries, kit, 0.0
 
     def stamp(self):
         """Where the digest stands of what all edits were refused over."""
@@ -218,17 +219,16 @@ class Crate:
                     last = now
         return "".join(said), seconds
 
+    @cached_property
     def functions(self):
         """The functions whose bodies a check can do without, each with the lines of its body."""
-        if self.found is None:
-            files = ((it, str(it.relative_to(self.folder))) for it in sorted((self.folder / "src").rglob("*.rt")))
-            self.found = [it for path, file in files for it in functions_of(self.name, file, path.read_text())]
-        return self.found
+        files = ((it, str(it.relative_to(self.folder))) for it in sorted((self.folder / "src").rglob("*.rt")))
+        return [it for path, file in files for it in functions_of(self.name, file, path.read_text())]
 
     def hollow_out(self, room, is_kept):
         """Takes the bodies from a copy of the crate, but those that are kept, and the proofs of the others."""
-        kept = [it for it, _ in self.functions() if is_kept(it)]
-        emptied = [(it, body) for it, body in self.functions() if not is_kept(it)]
+        kept = [it for it, _ in self.functions if is_kept(it)]
+        emptied = [(it, body) for it, body in self.functions if not is_kept(it)]
         for file in {it.file for it, _ in emptied}:
             text = (room / file).read_text()
             (room / file).write_text(hollow(text, [body for it, body in emptied if it.file == file]))
@@ -358,7 +358,7 @@ class Trial:
 
     def keeps(self, functions):
         """Which functions keep their bodies in a check of some, by the ends of their names. None where all must."""
-        found = [it for it, _ in self.crate.functions()]
+        found = [it for it, _ in self.crate.functions]
         # A name that is that of no body may be written otherwise here.
         unknown = [it for it in functions if not any(other.ends_with(it) for other in found)]
         if not functions or any(it.split("::")[-1] == other.name for it in unknown for other in found):
@@ -511,7 +511,7 @@ class Lanes:
 
 def try_all(trials, proofs):
     Lanes(trials, proofs).run()
-    edits = sorted((it for trial in trials for it in trial.edits), key=lambda it: -it.seconds)
+    edits = sorted((it for trial in trials for it in trial.edits if it.seconds), key=lambda it: -it.seconds)
     print("Processor time in seconds, of the costliest wrong bodies:")
     for edit in edits[:MOST]:
         print(f"{edit.seconds:8.0f}  {edit.crate}/{edit.name}")
