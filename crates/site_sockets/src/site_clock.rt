@@ -28,6 +28,11 @@ impl SiteClock {
 
     /// Makes this the latest time if it is later, and returns the latest time.
     pub fn advance(&self, time: u64) -> u64 {
+        // Threads read the clock for each command, so they write to what they share once for each millisecond.
+        let latest = self.latest();
+        if time <= latest {
+            return latest;
+        }
         self.latest.fetch_max(time, Ordering::SeqCst).max(time)
     }
 
