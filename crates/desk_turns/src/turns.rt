@@ -118,13 +118,17 @@ impl<D: DeskNames> TurnDesk<D> {
         }
     }
 
-    /// Notes how many records the desk has made, before its lock is given up. The list gets the counts before and after.
+    /// Notes how many records the desk has made, if any, before its lock is given up. The list gets the counts before and
+    /// after.
     #[inline(always)]
     fn note<R: Wait>(&self, rt: &R, kept: &Kept<D>, notes: &mut History<Counts>)
         ensures { is_some self.now.durability ≡ true → NotesAll kept.now notes.old.items notes.new.items }
     {
         if let Some(durability) = &self.durability {
-            durability.note(rt, kept.records_made(), notes);
+            let made = kept.records_made();
+            if made > 0 {
+                durability.note(rt, made, notes);
+            }
         }
     }
 
