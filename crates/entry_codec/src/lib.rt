@@ -25,5 +25,5 @@ pub use moves::read_move;
 pub use number::read_decimal;
 pub use parts::{first_decimal, split_first};
 pub use put::put_decimal;
-pub use reading::read_line;
+pub use reading::{read_line, read_text};
 pub use writing::{put_entry_line, write_entry, write_into, write_line};

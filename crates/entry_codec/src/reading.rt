@@ -1,5 +1,5 @@
 //! A message, read from its line.
-ghost use Rattle.std.specs.Prelude.{◌≡◌, ◌∷◌, ◌≤◌, length, IfOk, IfSome, Ok};
+ghost use Rattle.std.specs.Prelude.{◌≡◌, ◌∷◌, ◌++◌, [], ◌≤◌, length, IfOk, IfSome, Ok};
 ghost use Rattle.rights_types.specs.Messages.{MessageValue};
 ghost use Rattle.rights_types.specs.Values.{value_of};
 ghost use Rattle.entry_codec.specs.Spelling.{Spells};
@@ -132,4 +132,16 @@ pub fn read_line<A: Allocator + Copy>(alloc: A, line: &[u8]) -> Result<Message<A
     ensures memory { WantsRoom result (reading line.now) }
 {
     message_of_line(alloc, line)
+}
+
+/// The same of a line that is given without its line feed.
+#[tactic(auto, unfolding(crate::specs::Reading::reading))]
+pub fn read_text<A: Allocator + Copy>(alloc: A, text: &[u8]) -> Result<Message<A>, LineError>
+    ensures exact { Gives value_of result (reading (text.now ++ LINE_END ∷ [])) }
+    ensures memory { WantsRoom result (reading (text.now ++ LINE_END ∷ [])) }
+{
+    if text.len() >= MAX_LINE {
+        return Err(LineError::TooLong);
+    }
+    message_in(alloc, text)
 }
