@@ -12,7 +12,7 @@ use rights_types::{Entry, OutOfMemory};
 use site_core::{DeskError, ReplayError};
 use site_node::{Reply, Ticked};
 use site_words::DeskCommand;
-use std::alloc::Global;
+use std::alloc::{Allocator, Global};
 use std::marker::Model;
 use std::sync::{Arc, Mutex, MutexGuard, Wait};
 use transfer_manager::SiteSet;
@@ -142,7 +142,11 @@ impl<D: DeskNames> Seated<'_, D> {
     }
 
     /// Writes an entry of the site again, in one turn.
-    pub fn replay_own<R: Wait>(&mut self, rt: &R, entry: &Entry) -> Result<(), ReplayError>
+    pub fn replay_own<R: Wait, A: Allocator>(
+        &mut self,
+        rt: &R,
+        entry: &Entry<A>,
+    ) -> Result<(), ReplayError>
         ensures { ReplaysAtDesk D.id entry.now self.old result self.new }
     {
         self.turns.take(rt, ReplayOwn(entry), &mut *self.seat)

@@ -17,6 +17,7 @@ use durability::{Counts, Durability};
 use histories::History;
 use rights_types::{Entry, SiteId};
 use site_core::Desk;
+use std::alloc::Allocator;
 use std::marker::Model;
 use std::sync::{Arc, MutexGuard, Wait};
 
@@ -275,11 +276,11 @@ impl<D: DeskNames> Turns<D> {
 
     /// Waits for an entry of this applier's lane, and then applies it again in one turn, if it is this one, and nothing
     /// else. Errors: `LaneClosed`, without a turn; those of `Applier::apply_again`.
-    pub fn apply_again<R: Wait>(
+    pub fn apply_again<R: Wait, A: Allocator>(
         &mut self,
         rt: &R,
         applier: &mut Applier<D, Free>,
-        entry: &Entry,
+        entry: &Entry<A>,
     ) -> Result<(), StepError>
         ensures { OnOk result (TakesAgain D.id entry.now self.old applier.old self.new applier.new) }
     {

@@ -9,7 +9,7 @@ use site_journal::Batch;
 use site_node::{Reply, Ticked, act, act_keyed, serve_due, serve_due_beside};
 use site_records::KeyFault;
 use site_words::DeskCommand;
-use std::alloc::Global;
+use std::alloc::{Allocator, Global};
 use transfer_manager::SiteSet;
 
 /// The work of one turn at a desk.
@@ -146,9 +146,9 @@ impl<D: DeskNames> Work<D> for ApplyReady {
 
 /// To apply an entry of another site again, which its applier has in hand.
 #[derive(Drop)]
-pub struct ReplayApplied<'a>(pub &'a Entry);
+pub struct ReplayApplied<'a, A: Allocator = Global>(pub &'a Entry<A>);
 
-impl<'a, D: DeskNames> Work<D> for ReplayApplied<'a> {
+impl<'a, D: DeskNames, A: Allocator> Work<D> for ReplayApplied<'a, A> {
     ghost use Rattle.desk_turns.specs.Applying.{AppliesHand};
 
     type With = Applier<D, Free>;
@@ -227,9 +227,9 @@ impl<D: DeskNames> Work<D> for HandOver {
 
 /// To write an entry of the site again, for a seat.
 #[derive(Drop)]
-pub struct ReplayOwn<'a>(pub &'a Entry);
+pub struct ReplayOwn<'a, A: Allocator = Global>(pub &'a Entry<A>);
 
-impl<'a, D: DeskNames> Work<D> for ReplayOwn<'a> {
+impl<'a, D: DeskNames, A: Allocator> Work<D> for ReplayOwn<'a, A> {
     ghost use Rattle.desk_turns.specs.Journaling.{ReplaysOwn};
 
     type With = Seat<D>;

@@ -20,7 +20,7 @@ use site_node::{Sink, answer_ask, answer_query, note_denial};
 use site_records::RecordFault;
 use site_sockets::{Connection, PeerReader, PeerState, SiteSockets, SkipCause};
 use site_words::Config;
-use std::alloc::Global;
+use std::alloc::{Allocator, Global};
 use std::marker::{Model, PhantomData};
 use std::sync::{Arc, Wait};
 use std::time::Clock;
@@ -66,11 +66,11 @@ pub(crate) struct LaneEnd<D: DeskNames> {
 
 impl<D: DeskNames> PeerLink<D> {
     /// Takes in the line of an entry, which is the next one of the peer, and applies the entry in one turn.
-    pub(crate) fn replay<R: Wait>(
+    pub(crate) fn replay<R: Wait, A: Allocator>(
         &mut self,
         rt: &R,
         turns: &mut Turns<D>,
-        entry: &Entry,
+        entry: &Entry<A>,
         line: &[u8],
     ) -> Result<(), RecordFault>
         ensures { OnOk result (TakesTurn D.id (λ old new. AppliesAgain D.id old entry.now new) turns.old turns.new) }
