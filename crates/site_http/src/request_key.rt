@@ -1,5 +1,5 @@
 //! What a request says of a key for its command.
-ghost use Rattle.std.specs.Prelude.{◌≡◌};
+ghost use Rattle.std.specs.Prelude.{◌≡◌, codes};
 ghost use Rattle.command_keys.specs.Key.{key_in};
 ghost use Rattle.site_http.specs.Keys.{key_of, key_said};
 
@@ -19,14 +19,12 @@ pub enum RequestKey {
     Given(Key),
 }
 
-/// What the request says of a key.
-pub(crate) fn key_of(request: &Request<Bytes>) -> RequestKey
+/// What the request says of a key, in this field.
+pub(crate) fn key_of(field: &HeaderName, request: &Request<Bytes>) -> RequestKey
+    requires { field.now ≡ codes "idempotency-key" }
     ensures { result ≡ key_of request.now }
 {
-    let mut values = request
-        .headers()
-        .get_all(HeaderName::from_static("idempotency-key"))
-        .into_iter();
+    let mut values = request.headers().get_all(field).into_iter();
     let first = values.next();
     let second = values.next();
     match (first, second) {

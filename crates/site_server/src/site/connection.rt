@@ -215,6 +215,26 @@ impl<D: DeskNames, R: Wait, P: Peers + Drop, B: TickSignal + Drop> SiteClient<'_
             let time = self.signal.time();
             return self.tell_line(text, time, replies);
         }
+        self.tell_asked(key, waits, text, replies)
+    }
+
+    /// The same, of which nothing is inlined: where a line has no key, no room for one is made ready.
+    #[inline(never)]
+    fn tell_asked(
+        &mut self,
+        key: Option<Key>,
+        waits: bool,
+        text: Option<&[u8]>,
+        replies: &mut Replies<Global>,
+    ) -> Result<Answered, OutOfMemory>
+        requires { replies.old.part ≡ [] }
+        ensures ok { IfOk result (λ how. (line : List ℕ) → IsGiven line text.entry
+            → (reply : List ℕ) × Answers P.size P.sends P.stops B.has_ended B.has_left B.shows D.id key waits self.old line
+            (record { text = reply; how = how }) self.new × AddsReply replies.old replies.new reply) }
+        ensures short { OnOk result ((length replies.new.whole ≤ length replies.old.whole + TICK_ROOM)
+            ⊎ (self.new ≡ self.old)) }
+        ensures err { OnErr result (self.new ≡ self.old) }
+    {
         let command = under(key, self.command_in(text));
         self.tell_by(waits, command, replies)
     }

@@ -3,7 +3,7 @@ use Rattle.refusals.specs.Refusals.{LineAnswer}
 use Rattle.site_journal.proofs.Reading.{if_ok_map}
 use Rattle.site_server.specs.Replying.{under}
 use Rattle.site_server.proofs.CallLaws.{answers_line}
-use Rattle.site_server.proofs.site.client.SiteClient.tell_request.Goals as goal
+use Rattle.site_server.proofs.site.client.SiteClient.tell_asked.Goals as goal
 
 pub returns-clause-ok : goal.returns-clause-ok
 returns-clause-ok g c =
