@@ -1,4 +1,5 @@
 pub mod FirstLine
 pub mod Answered
 pub mod ConverseLaws
+pub mod FieldLaws
 pub mod HostLaws

@@ -8,6 +8,7 @@
 mod backend;
 mod busy;
 mod config;
+mod fields;
 mod hosts;
 mod lines;
 mod page;

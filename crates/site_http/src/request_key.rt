@@ -3,9 +3,13 @@ ghost use Rattle.std.specs.Prelude.{◌≡◌, codes};
 ghost use Rattle.command_keys.specs.Key.{key_in};
 ghost use Rattle.site_http.specs.Keys.{key_of, key_said};
 
+use crate::fields::has_field;
 use bytes::Bytes;
 use command_keys::Key;
 use http::{HeaderName, Request};
+
+/// The field that gives a command its key.
+const KEY_FIELD: &str = "idempotency-key";
 
 /// What the fields `Idempotency-Key` of a request say.
 #[derive(Clone, Copy)]
@@ -19,12 +23,24 @@ pub enum RequestKey {
     Given(Key),
 }
 
-/// What the request says of a key, in this field.
-pub(crate) fn key_of(field: &HeaderName, request: &Request<Bytes>) -> RequestKey
-    requires { field.now ≡ codes "idempotency-key" }
+/// What the request says of a key.
+pub(crate) fn key_of(request: &Request<Bytes>) -> RequestKey
     ensures { result ≡ key_of request.now }
 {
-    let mut values = request.headers().get_all(field).into_iter();
+    if has_field(request, KEY_FIELD) {
+        key_in_fields(request)
+    } else {
+        RequestKey::Absent
+    }
+}
+
+/// The same, where there may be such fields.
+#[inline(never)]
+fn key_in_fields(request: &Request<Bytes>) -> RequestKey
+    ensures { result ≡ key_of request.now }
+{
+    let field = HeaderName::from_static(KEY_FIELD);
+    let mut values = request.headers().get_all(&field).into_iter();
     let first = values.next();
     let second = values.next();
     match (first, second) {

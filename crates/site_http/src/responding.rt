@@ -15,29 +15,27 @@ use crate::replying::{LAST_ROOM, answer_body};
 use crate::request_key::key_of;
 use crate::route::{Allowed, Route, route_of};
 use bytes::{BufMut, Bytes};
-use http::{HeaderName, HeaderValue, Request, StatusCode, header};
+use http::{HeaderValue, Request, StatusCode, header};
 use http_server::Response;
 use line_streams::Replies;
 use std::alloc::{AllocError, Global};
 
 /// Responds to a request, at a site whose host has these names.
 pub(crate) fn respond<C: Backend>(
-    key_field: &HeaderName,
     names: &[String],
     client: &mut C,
     replies: &mut Replies<Global>,
     request: &Request<Bytes>,
     response: &mut Response,
 ) -> Result<(), AllocError>
-    requires field { key_field.now ≡ codes "idempotency-key" }
     requires blank { IsBlank response.old }
     ensures ok { OnOk result (Responds C.answers C.status C.queue C.known C.listed C.metrics C.closed (map string_bytes names.now)
         client.old request.now response.new client.new) }
     ensures err { OnErr result (client.new ≡ client.old) }
 {
     match route_of(names, request) {
-        Route::Commands => reply_to_lines(key_field, client, false, replies, request, response),
-        Route::Wait => reply_to_lines(key_field, client, true, replies, request, response),
+        Route::Commands => reply_to_lines(client, false, replies, request, response),
+        Route::Wait => reply_to_lines(client, true, replies, request, response),
         Route::Status => tell_status(client, replies, response),
         Route::Queue => tell_queue(client, replies, response),
         Route::Peers => tell_peers(client, replies, response),
@@ -55,21 +53,19 @@ pub(crate) fn respond<C: Backend>(
 
 /// Responds with the replies to the lines of the body.
 fn reply_to_lines<C: Backend>(
-    key_field: &HeaderName,
     client: &mut C,
     waits: bool,
     replies: &mut Replies<Global>,
     request: &Request<Bytes>,
     response: &mut Response,
 ) -> Result<(), AllocError>
-    requires field { key_field.now ≡ codes "idempotency-key" }
     requires blank { IsBlank response.old }
     ensures ok { OnOk result (IsReplied (RepliesToBody C.answers (key_of request.now) waits) client.old (body_of request.now)
         response.new client.new) }
     ensures err { OnErr result (client.new ≡ client.old) }
 {
     begin_reply(response)?;
-    let key = key_of(key_field, request);
+    let key = key_of(request);
     let body = request.body().as_slice();
     response.status = answer_body(client, key, waits, body, replies, &mut response.body);
     Ok(())

@@ -12,6 +12,7 @@ ghost use Rattle.site_http.specs.Hosts.{IsOwnHost};
 ghost use Rattle.site_http.specs.Routing.{verb_of, target_of, field_of, route_by, IsForSite, IsForeign, Leads};
 ghost use Rattle.site_http.specs.Routing.{first_asked, first_by, log_route};
 
+use crate::fields::has_field;
 use crate::hosts::is_own_host;
 use bytes::Bytes;
 use entry_codec::{first_decimal, split_first};
@@ -139,11 +140,22 @@ fn names_origin(request: &Request<Bytes>) -> bool
     request.headers().contains_key(header::ORIGIN)
 }
 
+/// The field in which a browser says from which site a request comes.
+const SITE_FIELD: &str = "sec-fetch-site";
+
 /// Whether the request says that it comes from another site.
+#[tactic(auto, using(crate::proofs::FieldLaws::no_field))]
 fn names_other_site(request: &Request<Bytes>) -> bool
     ensures { IsTrue result ↔ (field_of request.now (codes "sec-fetch-site") ≡ Some (codes "cross-site")) }
 {
-    is_cross_site(field_of(request, HeaderName::from_static("sec-fetch-site")))
+    has_field(request, SITE_FIELD) && says_cross_site(request)
+}
+
+/// The same, where there may be such a field.
+fn says_cross_site(request: &Request<Bytes>) -> bool
+    ensures { IsTrue result ↔ (field_of request.now (codes "sec-fetch-site") ≡ Some (codes "cross-site")) }
+{
+    is_cross_site(field_of(request, HeaderName::from_static(SITE_FIELD)))
 }
 
 /// Whether this value says that a request comes from another site.

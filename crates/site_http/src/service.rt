@@ -1,12 +1,12 @@
 //! The service of one connection.
-ghost use Rattle.std.specs.Prelude.{◌≡◌, codes, map};
+ghost use Rattle.std.specs.Prelude.{◌≡◌, map};
 ghost use Rattle.std.specs.String.{string_bytes};
 ghost use Rattle.site_http.specs.Responding.{Serves};
 
 use crate::backend::Backend;
 use crate::responding::respond;
 use bytes::Bytes;
-use http::{HeaderName, Request};
+use http::Request;
 use http_server::{Response, Service};
 use line_streams::Replies;
 use std::alloc::{AllocError, Global};
@@ -20,9 +20,6 @@ pub struct ClientService<'a, C: Backend> {
     names: &'a [String],
     /// Kept between requests, so that a request allocates nothing here.
     replies: Replies<Global>,
-    /// The field of a key, which is looked for in each request.
-    key_field: HeaderName,
-    ghost field: { key_field ≡ codes "idempotency-key" },
 }
 
 impl<'a, C: Backend> Model for ClientService<'a, C> {
@@ -44,7 +41,6 @@ impl<'a, C: Backend> ClientService<'a, C> {
             client,
             names,
             replies: Replies::new(alloc),
-            key_field: HeaderName::from_static("idempotency-key"),
         }
     }
 
@@ -66,7 +62,6 @@ impl<C: Backend> Service for ClientService<'_, C> {
         response: &mut Response,
     ) -> Result<(), AllocError> {
         respond(
-            &self.key_field,
             self.names,
             &mut self.client,
             &mut self.replies,

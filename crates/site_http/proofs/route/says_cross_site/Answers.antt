@@ -1,6 +1,6 @@
 use Rattle.std.proofs.Common.{◌≡◌, ◌∙◌, ℕ, List, Some, codes, subst, sym}
 use Rattle.site_http.specs.Routing.{field_of}
-use Rattle.site_http.proofs.route.names_other_site.Goals as goal
+use Rattle.site_http.proofs.route.says_cross_site.Goals as goal
 
 pub returns : goal.returns
 returns c =
