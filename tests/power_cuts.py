@@ -346,7 +346,9 @@ def power_cuts_under_way(seed, rounds=15):
             with open(sites.path(1), "wb") as file:
                 file.write(image(cut.disk, chance))
             sites.start(1)
-            own, other = sites.holdings(1), sites.holdings(2)
+            # In this order: site 1 may answer an ask of site 2 meanwhile.
+            other = sites.holdings(2)
+            own = sites.holdings(1)
             expect([fact for fact in cut.told if not has(own, fact)], [], what)
             expect_repeats(sites[1], replies, what)
             heard = other.applied[1]
