@@ -148,14 +148,8 @@ const SITE_FIELD: &str = "sec-fetch-site";
 fn names_other_site(request: &Request<Bytes>) -> bool
     ensures { IsTrue result ↔ (field_of request.now (codes "sec-fetch-site") ≡ Some (codes "cross-site")) }
 {
-    has_field(request, SITE_FIELD) && says_cross_site(request)
-}
-
-/// The same, where there may be such a field.
-fn says_cross_site(request: &Request<Bytes>) -> bool
-    ensures { IsTrue result ↔ (field_of request.now (codes "sec-fetch-site") ≡ Some (codes "cross-site")) }
-{
-    is_cross_site(field_of(request, HeaderName::from_static(SITE_FIELD)))
+    has_field(request, SITE_FIELD)
+        && is_cross_site(field_of(request, HeaderName::from_static(SITE_FIELD)))
 }
 
 /// Whether this value says that a request comes from another site.
