@@ -1,6 +1,7 @@
 //! The seats of a desk, each under a lock of its own.
 ghost use Rattle.std.specs.Prelude.{◌≡◌, ◌+◌, ◌≤◌, false, [], IfOk, IfSome};
 ghost use Rattle.apply_lanes.specs.declared.names.TheConstants.{SEATS};
+ghost use Rattle.origin_log.specs.Logs.{entry_text};
 ghost use Rattle.transfer_manager.specs.SiteSets.{has_site};
 ghost use Rattle.desk_turns.specs.Seated.{ActsAtDesk, ActsKeyedAtDesk, ReplaysAtDesk, TicksAtDesk};
 
@@ -141,15 +142,17 @@ impl<D: DeskNames> Seated<'_, D> {
             .take(rt, TickBeside { time, silent }, &mut *self.seat)
     }
 
-    /// Writes an entry of the site again, in one turn.
+    /// Writes an entry of the site again, of which this is the text, in one turn.
     pub fn replay_own<R: Wait, A: Allocator>(
         &mut self,
         rt: &R,
         entry: &Entry<A>,
+        text: &[u8],
     ) -> Result<(), ReplayError>
+        requires { text.now ≡ entry_text entry.now }
         ensures { ReplaysAtDesk D.id entry.now self.old result self.new }
     {
-        self.turns.take(rt, ReplayOwn(entry), &mut *self.seat)
+        self.turns.take(rt, ReplayOwn(entry, text), &mut *self.seat)
     }
 
     /// Waits until no other thread holds the desk, and holds it for reading.

@@ -136,24 +136,22 @@ impl<D: DeskNames> TurnDesk<D> {
     /// Waits until no other thread holds the desk, and holds it, for turns that make room for records or for others.
     #[inline(always)]
     fn hold<'a, R: Wait>(&'a self, rt: &R, makes_room: bool) -> MutexGuard<'a, Kept<D>> {
-        if makes_room || self.durability.is_none() {
-            self.desk.lock(rt)
-        } else {
-            self.hold_with_room(rt)
+        let kept = self.desk.lock(rt);
+        if makes_room || self.durability.is_none() || kept.bytes_waiting() <= MUCH_WAITING {
+            return kept;
         }
+        drop(kept);
+        self.hold_with_room(rt)
     }
 
-    /// The same, once there is room for more records, with a journal.
+    /// The same with a journal, once there is room for more records, or none that appends.
     #[inline(never)]
     fn hold_with_room<'a, R: Wait>(&'a self, rt: &R) -> MutexGuard<'a, Kept<D>> {
         for _ in rt.forever() {
+            let has_journal = self.has_journal(rt);
             let kept = self.desk.lock(rt);
-            if kept.bytes_waiting() <= MUCH_WAITING {
+            if !has_journal || kept.bytes_waiting() <= MUCH_WAITING {
                 return kept;
-            }
-            drop(kept);
-            if !self.has_journal(rt) {
-                return self.desk.lock(rt);
             }
         }
         unreachable!()

@@ -225,23 +225,25 @@ impl<D: DeskNames> Work<D> for HandOver {
     }
 }
 
-/// To write an entry of the site again, for a seat.
+/// To write an entry of the site again, of which this is the text, for a seat.
 #[derive(Drop)]
-pub struct ReplayOwn<'a, A: Allocator = Global>(pub &'a Entry<A>);
+pub struct ReplayOwn<'a, A: Allocator = Global>(pub &'a Entry<A>, pub &'a [u8]);
 
 impl<'a, D: DeskNames, A: Allocator> Work<D> for ReplayOwn<'a, A> {
+    ghost use Rattle.std.specs.Prelude.{◌≡◌};
+    ghost use Rattle.origin_log.specs.Logs.{entry_text};
     ghost use Rattle.desk_turns.specs.Journaling.{ReplaysOwn};
 
     type With = Seat<D>;
 
     type Told = Result<(), ReplayError>;
 
-    ghost may = { λ _. Unit {0} };
+    ghost may = { λ work. work.1.now ≡ entry_text work.0.now };
 
     ghost does = { λ work was old told now new. ReplaysOwn work.0.now was old told now new };
 
     fn work(self, kept: &mut Kept<D>, with: &mut Seat<D>) -> Result<(), ReplayError> {
-        kept.replay_own(with, self.0)
+        kept.replay_own(with, self.0, self.1)
     }
 }
 

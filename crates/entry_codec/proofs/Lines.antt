@@ -7,7 +7,7 @@ use Rattle.std.specs.Borrow.{Bor}
 use Rattle.std.specs.List.{join_with_byte}
 use Rattle.std.specs.Str.{bytes_eq}
 use Rattle.std.proofs.lemmas.Bool.{ne_eqb, eqb-true, eqb-false, le-ltb, not-true, not-false, and_parts}
-use Rattle.std.proofs.lemmas.List.{nil_from_length, take_at, take-append-drop, length-map}
+use Rattle.std.proofs.lemmas.List.{append_cancel_right, nil_from_length, take_at, take-append-drop, length-map}
 use Rattle.std.proofs.lemmas.List.Elements.{All-head, All-tail}
 use Rattle.std.proofs.lemmas.List.Splits.{join_with_byte-slice_split}
 use Rattle.std.proofs.Math.Seq.{get_or-append_seam}
@@ -251,6 +251,12 @@ pub is_found : {X : Type 0} (view : X → MessageValue) (text : List ℕ) (r : R
     → Gives view r (reading text) → IfOk r (λ m. Spells (view m) text)
 is_found view text (Ok m) given = reading_is text (view m) given
 is_found view text (Err e) given = tt
+
+pub text_found : {X : Type 0} (view : X → MessageValue) (text : List ℕ) (r : Result X LineError)
+    → Gives view r (reading (text ++ 10 ∷ [])) → IfOk r (λ m. text ≡ text_of (view m))
+text_found view text (Ok m) given =
+    append_cancel_right text (text_of (view m)) (10 ∷ []) (reading_is (text ++ 10 ∷ []) (view m) given).1
+text_found view text (Err e) given = tt
 
 pub is_once : (m n : MessageValue) (text : List ℕ) → Spells m text → Spells n text → m ≡ n
 is_once m n text h k = ok_is m n (sym (reading_again m h.0) ∙ ap reading (sym h.1 ∙ k.1) ∙ reading_again n k.0)

@@ -26,4 +26,4 @@ pub use number::read_decimal;
 pub use parts::{first_decimal, split_first};
 pub use put::put_decimal;
 pub use reading::{read_line, read_text};
-pub use writing::{put_entry_line, write_entry, write_into, write_line};
+pub use writing::{put_entry_line, put_text_line, write_entry, write_into, write_line};

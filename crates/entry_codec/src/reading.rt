@@ -2,7 +2,7 @@
 ghost use Rattle.std.specs.Prelude.{◌≡◌, ◌∷◌, ◌++◌, [], ◌≤◌, length, IfOk, IfSome, Ok};
 ghost use Rattle.rights_types.specs.Messages.{MessageValue};
 ghost use Rattle.rights_types.specs.Values.{value_of};
-ghost use Rattle.entry_codec.specs.Spelling.{Spells};
+ghost use Rattle.entry_codec.specs.Spelling.{Spells, text_of};
 ghost use Rattle.entry_codec.specs.Parts.{parts_in, Gives, parts_left, fields_left};
 ghost use Rattle.entry_codec.specs.Reading.{push_of, answer_of, message_of, reading, WantsRoom};
 
@@ -134,14 +134,23 @@ pub fn read_line<A: Allocator + Copy>(alloc: A, line: &[u8]) -> Result<Message<A
     message_of_line(alloc, line)
 }
 
-/// The same of a line that is given without its line feed.
+#[inline(always)]
 #[tactic(auto, unfolding(crate::specs::Reading::reading))]
-pub fn read_text<A: Allocator + Copy>(alloc: A, text: &[u8]) -> Result<Message<A>, LineError>
-    ensures exact { Gives value_of result (reading (text.now ++ LINE_END ∷ [])) }
+fn message_of_text<A: Allocator + Copy>(alloc: A, text: &[u8]) -> Result<Message<A>, LineError>
+    ensures value { Gives value_of result (reading (text.now ++ LINE_END ∷ [])) }
     ensures memory { WantsRoom result (reading (text.now ++ LINE_END ∷ [])) }
 {
     if text.len() >= MAX_LINE {
         return Err(LineError::TooLong);
     }
     message_in(alloc, text)
+}
+
+/// The same of a line that is given without its line feed.
+pub fn read_text<A: Allocator + Copy>(alloc: A, text: &[u8]) -> Result<Message<A>, LineError>
+    ensures found { IfOk result (λ m. text.now ≡ text_of (value_of m)) }
+    ensures exact { Gives value_of result (reading (text.now ++ LINE_END ∷ [])) }
+    ensures memory { WantsRoom result (reading (text.now ++ LINE_END ∷ [])) }
+{
+    message_of_text(alloc, text)
 }

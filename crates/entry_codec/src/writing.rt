@@ -1,5 +1,5 @@
 //! Writing a message as its line.
-ghost use Rattle.std.specs.Prelude.{◌≡◌, ◌+◌, ◌≤◌, [], ◌∷◌, ◌++◌, length, take, decimal, IfOk, OnOk, OnErr};
+ghost use Rattle.std.specs.Prelude.{◌≡◌, ◌+◌, ◌<◌, ◌≤◌, [], ◌∷◌, ◌++◌, length, take, decimal, IfOk, OnOk, OnErr};
 ghost use Rattle.rights_types.specs.Entries.{IsEntry};
 ghost use Rattle.rights_types.specs.Values.{value_of};
 ghost use Rattle.rights_types.specs.Messages.{IsMessage};
@@ -233,6 +233,17 @@ pub fn put_entry_line(buffer: &mut [u8], origin: SiteId, prev: u64, moves: &[Mov
 {
     let at = put_entry_of(buffer, 0, origin, prev, moves);
     put_byte(buffer, at, LINE_END)
+}
+
+/// Writes a line of this text into a buffer that has room for it, and returns the length of the line.
+pub fn put_text_line(buffer: &mut [u8], text: &[u8]) -> usize
+    requires { length text.now < length buffer.old }
+    ensures text { take result buffer.new ≡ text.now ++ LINE_END ∷ [] }
+    ensures end { result ≡ length text.now + 1 }
+{
+    let end = text.len();
+    buffer[..end].copy_from_slice(text);
+    put_byte(buffer, end, LINE_END)
 }
 
 /// The one line that spells a message. `OutOfMemory` if memory for it is refused.

@@ -4,6 +4,7 @@ ghost use Rattle.rights_types.specs.Rights.{issued, spent};
 ghost use Rattle.rights_protocol.specs.Schedules.{LocalChange};
 ghost use Rattle.rights_protocol.specs.Schedules.LocalChange.{Other};
 ghost use Rattle.rights_protocol.specs.Crashes.Record.{Wrote as IsWritten, Asked as IsAsked};
+ghost use Rattle.origin_log.specs.Logs.{entry_text};
 ghost use Rattle.site_core.specs.Replaying.{Replays, RefusesOwn, RefusesAsk};
 ghost use Rattle.apply_lanes.specs.Steps.{StepsBy};
 
@@ -19,13 +20,15 @@ impl<D: DeskNames, A: Allocator + Copy> Kept<D, A> {
     ghost use Rattle.apply_lanes.specs.Kepts.{raised};
     ghost use Rattle.apply_lanes.specs.Journals.{told_again};
 
-    /// Writes an entry of this site again, as `Desk::replay_own`, with its errors. What it issued and spent counts for
-    /// this seat, as if its calls had reported it.
+    /// Writes an entry of this site again, as `Desk::replay_own`, with its errors. Its text is its line without the line
+    /// feed. What it issued and spent counts for this seat, as if its calls had reported it.
     pub fn replay_own<B: Allocator>(
         &mut self,
         seat: &mut Seat<D>,
         entry: &Entry<B>,
+        text: &[u8],
     ) -> Result<(), ReplayError>
+        requires { text.now ≡ entry_text entry.now }
         ensures replays { OnOk result (Replays self.old.desk (IsWritten entry.now) self.new.desk) }
         ensures step { OnOk result ((change : LocalChange) × StepsBy D.id self.old.desk change self.new.desk) }
         ensures counters { OnOk result
@@ -40,7 +43,7 @@ impl<D: DeskNames, A: Allocator + Copy> Kept<D, A> {
         ensures err { OnErr result ((self.new ≡ self.old) × (seat.new ≡ seat.old)) }
     {
         let (issued, spent) = (self.desk.issued(), self.desk.spent());
-        self.desk.replay_own(entry)?;
+        self.desk.replay_own(entry, text)?;
         let more = self.desk.issued() - issued;
         let used = self.desk.spent() - spent;
         self.issued.add(&mut seat.issued, more);

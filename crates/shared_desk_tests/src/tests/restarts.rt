@@ -1,9 +1,13 @@
 //! A desk that is made again under its lock: a site's own records by a seat, those of its peer by an applier.
+ghost use Rattle.std.specs.Prelude.{◌≡◌};
+ghost use Rattle.rights_types.specs.Values.{value_of};
+ghost use Rattle.entry_codec.specs.Spelling.{text_of};
+
 use crate::tests::desks::{alone, applier_at, report_of, seat_at, with_applied, with_seat};
 use crate::tests::links::{feed, link};
 use crate::tests::scenes::{Host, Scene, play};
 use apply_lanes::{Applied, Applier, DeskNames, Free, Report, Seat, SharedDesk, StepError};
-use entry_codec::read_line;
+use entry_codec::{read_line, read_text};
 use rights_types::{Ask, Message, SiteId};
 use site_core::{DeskError, ReplayError};
 use std::alloc::Allocator;
@@ -26,8 +30,9 @@ fn replay<D: DeskNames, R: Host>(
     seat: &mut Seat<D>,
     line: &str,
 ) -> Result<(), ReplayError> {
-    match read_line(rt.alloc(), line.as_bytes()) {
-        Ok(message) => replay_message(rt, desk, seat, &message),
+    let text = line.strip_suffix("\n").unwrap_or(line).as_bytes();
+    match read_text(rt.alloc(), text) {
+        Ok(message) => replay_message(rt, desk, seat, &message, text),
         Err(_) => Err(ReplayError::NoRecord),
     }
 }
@@ -37,9 +42,12 @@ fn replay_message<D: DeskNames, R: Host, A: Allocator>(
     desk: &SharedDesk<D>,
     seat: &mut Seat<D>,
     message: &Message<A>,
-) -> Result<(), ReplayError> {
+    text: &[u8],
+) -> Result<(), ReplayError>
+    requires { text.now ≡ text_of (value_of message.now) }
+{
     match message {
-        Message::Push(entry) => desk.lock(rt).replay_own(seat, entry),
+        Message::Push(entry) => desk.lock(rt).replay_own(seat, entry, text),
         Message::Ask(ask) => replay_ask(rt, desk, ask),
         _ => Err(ReplayError::NoRecord),
     }

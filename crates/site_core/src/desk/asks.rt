@@ -121,7 +121,7 @@ impl<A: Allocator + Copy> Desk<A> {
             amount,
             ask: ask.ask(),
         }];
-        let number = self.ledger.write(&moves)?;
+        let number = self.ledger.write(&moves, None)?;
         self.manager.note_answer(ask, AskAnswer::Grant(amount));
         Ok(number)
     }

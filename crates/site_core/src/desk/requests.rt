@@ -50,7 +50,7 @@ impl<A: Allocator + Copy> Desk<A> {
             if !self.has_room(1) {
                 return Err(DeskError::LogFull);
             }
-            let number = self.ledger.write(&[Move::Spend(rights)])?;
+            let number = self.ledger.write(&[Move::Spend(rights)], None)?;
             return Ok(Spending::Spent(number));
         }
         match self.queue.put(amount, deadline) {
@@ -81,7 +81,7 @@ impl<A: Allocator + Copy> Desk<A> {
         if self.spare() < amount {
             return Err(DeskError::Short);
         }
-        Ok(self.ledger.write(&[Move::Spend(rights)])?)
+        Ok(self.ledger.write(&[Move::Spend(rights)], None)?)
     }
 
     /// Serves the spend at the front of the queue, if enough rights are held, and returns its ticket and the number of
@@ -106,7 +106,7 @@ impl<A: Allocator + Copy> Desk<A> {
         if !self.has_room(1) {
             return Err(DeskError::LogFull);
         }
-        let number = self.ledger.write(&[Move::Spend(amount)])?;
+        let number = self.ledger.write(&[Move::Spend(amount)], None)?;
         self.queue.serve_front(number);
         Ok(Some((ticket, number)))
     }

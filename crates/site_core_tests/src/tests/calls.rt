@@ -1,7 +1,7 @@
 //! Calls of desks by their names, made only if they are permitted, and their results as text. No function has a
 //! clause, and none but `hear` keeps text of its own: so each is checked at little cost.
 use crate::tests::readers::{put_peer, put_site};
-use entry_codec::{read_line, read_move};
+use entry_codec::{read_move, read_text};
 use origin_log::ReadError;
 use refusing_allocator::Refusing;
 use request_queue::Status;
@@ -279,18 +279,19 @@ fn post(alloc: Global, text: &mut String, desk: &mut Counted, words: &str) -> Pu
 
 // The desk receives the message that the words spell, or replays it as a record.
 fn hear(alloc: Global, text: &mut String, desk: &mut Counted, words: &str, replays: bool) -> Put {
-    let mut line = Vec::from_slice(alloc, words.as_bytes())?;
-    line.push(b'\n')?;
-    match read_line(alloc, &line) {
-        Ok(message) => put_message(text, desk, &message, replays),
+    match read_text(alloc, words.as_bytes()) {
+        Ok(message) => {
+            if replays {
+                put_replayed(text, desk.replay(&message, words.as_bytes()))
+            } else {
+                put_message(text, desk, &message)
+            }
+        }
         Err(fault) => write!(text, "error {fault:?}"),
     }
 }
 
-fn put_message(text: &mut String, desk: &mut Counted, message: &Message, replays: bool) -> Put {
-    if replays {
-        return put_replayed(text, desk.replay(message));
-    }
+fn put_message(text: &mut String, desk: &mut Counted, message: &Message) -> Put {
     match message {
         Message::Push(entry) => put_applied(text, desk, entry),
         Message::Answer(answer) => put_all_applied(text, desk, answer.entries()),
