@@ -9,6 +9,7 @@ use crate::turns::{Look, TurnDesk, Turns};
 use crate::work::{Act, ActKeyed, ReplayOwn, Tick, TickBeside};
 use apply_lanes::{DeskNames, Seat};
 use command_keys::Key;
+use crossbeam_utils::CachePadded;
 use rights_types::{Entry, OutOfMemory};
 use site_core::{DeskError, ReplayError};
 use site_node::{Reply, Ticked};
@@ -19,11 +20,12 @@ use std::sync::{Arc, Mutex, MutexGuard, Wait};
 use transfer_manager::SiteSet;
 
 /// The seats of a desk, the clock's last, each under a lock of its own. Whoever has a seat holds its lock, so a seat
-/// cannot get lost, nor into the place of another. A clause reads it as their number.
+/// cannot get lost, nor into the place of another. Each is on cache lines of its own, since each turn changes one. A
+/// clause reads it as their number.
 #[derive(Drop)]
 pub struct Seats<D: DeskNames> {
     desk: Arc<TurnDesk<D>>,
-    seats: Vec<Mutex<Seat<D>>>,
+    seats: Vec<CachePadded<Mutex<Seat<D>>>>,
 }
 
 /// A seat that is held, and the turns that are taken for it. When this is dropped, the seat is free.
@@ -66,12 +68,12 @@ impl<D: DeskNames> Seats<D> {
             let Ok(seat) = desk.seat(rt) else {
                 return Err(OutOfMemory);
             };
-            seats.push(Mutex::new(seat))?;
+            seats.push(CachePadded::new(Mutex::new(seat)))?;
         }
         let Ok(clock) = desk.clock_seat(rt) else {
             return Err(OutOfMemory);
         };
-        seats.push(Mutex::new(clock))?;
+        seats.push(CachePadded::new(Mutex::new(clock)))?;
         Ok(Seats {
             desk: desk.clone()?,
             seats,
@@ -101,7 +103,7 @@ impl<D: DeskNames> Seats<D> {
         let Seats { seats, .. } = self;
         let mut free = Vec::with_capacity(alloc, seats.len())?;
         for seat in seats {
-            free.push(seat.into_inner())?;
+            free.push(seat.into_inner().into_inner())?;
         }
         Ok(free)
     }

@@ -1,5 +1,6 @@
 //! The counters that threads share. Each is added to and read atomically, without a lock, so the values of several
 //! counters need not belong to one moment.
+use crossbeam_utils::CachePadded;
 use refusals::{Answered, REFUSAL_COUNT, Refusal};
 use std::sync::atomic::{AtomicBool, AtomicU64, Ordering};
 
@@ -13,15 +14,15 @@ pub const WRITERS: usize = CLIENTS + 1;
 #[derive(Drop)]
 pub struct Counters {
     /// One for each writer, which no other thread changes: an atomic addition for each command would be a tenth of what
-    /// a spend costs.
-    commands: [AtomicU64; WRITERS],
+    /// a spend costs. On one cache line the counters of two writers would slow both.
+    commands: [CachePadded<AtomicU64>; WRITERS],
     refused: [AtomicU64; REFUSAL_COUNT],
 }
 
 impl Counters {
     pub fn new() -> Counters {
         Counters {
-            commands: std::array::from_fn(|_| AtomicU64::new(0)),
+            commands: std::array::from_fn(|_| CachePadded::new(AtomicU64::new(0))),
             refused: std::array::from_fn(|_| AtomicU64::new(0)),
         }
     }

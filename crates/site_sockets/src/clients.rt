@@ -10,6 +10,7 @@ use crate::deadline_reader::DeadlineReader;
 use crate::exits::shared;
 use crate::listening::Listening;
 use crate::stopwatch::Stopwatch;
+use crossbeam_utils::CachePadded;
 use durability::{Durability, ExitWriter};
 use log_lines::LogQueue;
 use rights_types::OutOfMemory;
@@ -83,8 +84,8 @@ pub struct Clients {
     pub hosts: Vec<String>,
     stopwatch: Stopwatch,
     pool: ConnectionPool,
-    /// What is known of each connection in it.
-    watched: Vec<Watched>,
+    /// What is known of each connection in it. Its own thread changes that again and again.
+    watched: Vec<CachePadded<Watched>>,
     budget: Budget,
     closing: ConnectionPool,
     /// Whether the last connection was turned away.
@@ -104,10 +105,10 @@ impl Clients {
     {
         let mut watched = Vec::with_capacity(alloc, CLIENTS)?;
         for _ in 0..CLIENTS {
-            watched.push(Watched {
+            watched.push(CachePadded::new(Watched {
                 activity: Activity::new(),
                 share: Share::new(),
-            })?;
+            }))?;
         }
         Ok(Clients {
             listening,

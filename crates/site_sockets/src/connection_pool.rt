@@ -1,5 +1,6 @@
 //! A fixed number of places for connections, which another thread may shut down.
 
+use crossbeam_utils::CachePadded;
 use rights_types::OutOfMemory;
 use std::alloc::Global;
 use std::net::{Shutdown, TcpStream};
@@ -28,7 +29,7 @@ pub(crate) struct ConnectionPool {
     /// Notified whenever a place becomes free.
     freed: Condvar,
     /// For each place, whether its connection is idle: no request has begun on it.
-    idle: Vec<AtomicBool>,
+    idle: Vec<CachePadded<AtomicBool>>,
     /// Whether no further request may begin.
     is_ending: AtomicBool,
     /// Whether more than `FEW` places are taken.
@@ -85,7 +86,7 @@ impl State {
     }
 
     /// Ends the input of the idle connections.
-    fn end_idle(&self, idle: &[AtomicBool]) {
+    fn end_idle(&self, idle: &[CachePadded<AtomicBool>]) {
         for (stream, idle) in self.places.iter().zip(idle) {
             if let Some(stream) = stream {
                 if idle.load(Ordering::SeqCst) {
@@ -103,7 +104,7 @@ impl ConnectionPool {
         let mut idle = Vec::with_capacity(alloc, size)?;
         for _ in 0..size {
             places.push(None)?;
-            idle.push(AtomicBool::new(true))?;
+            idle.push(CachePadded::new(AtomicBool::new(true)))?;
         }
         Ok(ConnectionPool {
             state: Mutex::new(State {
