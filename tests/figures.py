@@ -61,6 +61,7 @@ def count_matches(pattern, paths):
 
 def count_suite():
     import behind_nginx
+    import copy_checks
     import documents
     import ends
     import journal_refusals
@@ -87,7 +88,7 @@ def count_suite():
     import upgrades
 
     modules = (
-        repository, documents, lane_orders, program, journals, journal_refusals, told_checks, scripts, loopback,
+        repository, documents, copy_checks, lane_orders, program, journals, journal_refusals, told_checks, scripts, loopback,
         over_http, restarts, power_cuts, kills, upgrades, spares, ends, silence, timing, schedules, lockstep, shops,
         tunnels, behind_nginx, many_stocks, packages,
     )  # fmt: skip

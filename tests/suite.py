@@ -104,6 +104,7 @@ if __name__ == "__main__":
     words = own_words(sys.argv[1:])
     import behind_nginx
     import builds
+    import copy_checks
     import documents
     import ends
     import journal_refusals
@@ -131,7 +132,7 @@ if __name__ == "__main__":
     import upgrades
 
     modules = [
-        repository, documents, builds, lane_orders, program, journals, journal_runs, journal_refusals, told_checks,
+        repository, documents, builds, copy_checks, lane_orders, program, journals, journal_runs, journal_refusals, told_checks,
         scripts, loopback, over_http, restarts, power_cuts, kills, upgrades, spares, ends, silence, timing, schedules,
         lockstep, shops, tunnels, behind_nginx, many_stocks, packages,
     ]  # fmt: skip

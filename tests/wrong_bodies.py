@@ -1,16 +1,20 @@
 #!/usr/bin/env python3
 """Tries the wrong bodies, crates/NAME/must-fail/*.edit, several in one check:
 
-    tests/wrong_bodies.py [--libraries FOLDER [--beside LOG END]] [NAME[/EDIT]]..
+    tests/wrong_bodies.py [--libraries FOLDER [--beside LOG END]] [--copies] [NAME[/EDIT]]..
 
 `rt must-fail` tries one edit at a time, and each check loads all libraries below the crate. Here one check has several
 edits, each in a function of its own. That is sound, since the proof of a function cites the contracts of what it calls
 and cannot open their bodies: what is proved or refused of one function is the same whatever stands in the bodies of the
-others. An edit counts as refused only if a goal of the function that it changes is refused; that the function calls
-another one that is not proved says nothing. An edit of a definition, of a contract or of a cycle of calls is tried
-alone, and so is one of which the check of several says nothing. The file must-fail/refused.txt says of such an edit
-which functions to check first; if these are proved all the same, the whole crate is checked. For the same reason the
-functions that a check is not about have no bodies in it: what they call would be proved too.
+others. Of several edits of one function the first is made in it, and each other one in a copy of it under another name
+(copies.py). A copy shows the same as the function would: its theorem is of the same contract, and its proof, from the
+same files, cites the contracts of the same calls. `--copies` checks copies without an edit, which must all be proved. A
+method of a trait has no copies, so its edits are tried in one check after the other. An edit counts as refused only if a
+goal of the function or of the copy that it changes is refused; that this one calls another that is not proved says
+nothing. An edit of a definition, of a contract or of a cycle of calls is tried alone, and so is one of which the check of
+several says nothing. The file must-fail/refused.txt says of such an edit which functions to check first; if these are
+proved all the same, the whole crate is checked. For the same reason the functions that a check is not about have no
+bodies in it: what they call would be proved too.
 
 FOLDER has the libraries below the crates, as `rt` (NAME/out/rlib/NAME.rlib) or `./build` (NAME.rlib) makes them, and each
 check begins with nothing else. Where it is not given, they are those that `rt` or else `./build` made here, and a check
@@ -38,6 +42,7 @@ from importlib.machinery import SourceFileLoader
 from importlib.util import module_from_spec, spec_from_loader
 from pathlib import Path
 
+from copies import Copies, parts_of
 from functions import NO_BODY, OWN_PROOF, Function, function_at, functions_of, hollow
 from processes import Process
 
@@ -162,7 +167,7 @@ class Crate:
     def digest(self):
         """A sum of all that the verdicts on the edits depend on."""
         found = hashlib.sha256(f"{self.kit.rattle.stat().st_mtime_ns} {self.used}\n".encode())
-        for script in ("wrong_bodies.py", "functions.py"):
+        for script in ("wrong_bodies.py", "copies.py", "functions.py"):
             found.update(Path(__file__).with_name(script).read_bytes())
         for name, library in sorted(self.libraries.items()):
             found.update(f"{name}\n".encode() + (library / "format").read_bytes())
@@ -189,6 +194,7 @@ class Crate:
                 if (self.folder / part).is_dir():
                     shutil.copytree(self.folder / part, f"{room}/{part}")
             for file, text in texts.items():
+                Path(room, file).parent.mkdir(parents=True, exist_ok=True)
                 Path(room, file).write_text(text)
             if is_kept:
                 self.hollow_out(Path(room), is_kept)
@@ -253,19 +259,19 @@ class Crate:
         return {name: functions.split() for name, _, functions in (it.partition(":") for it in lines)}
 
 
-def verdict_on(edit, check):
-    """What a check of several edits says of one of them: (REFUSED, why), or None where that does not follow."""
-    own = [it for it in check.lines() if (found := re.match(r"fn (\S+): (?!proved)", it)) and edit.function.is_named(found[1])]
+def verdict_on(function, check):
+    """What a check of several edits says of the one in this function: (REFUSED, why), or None where that does not follow."""
+    own = [it for it in check.lines() if (found := re.match(r"fn (\S+): (?!proved)", it)) and function.is_named(found[1])]
     if not own:
         return None
     if any(NO_GOAL in it for it in own):
         goal = next(it[it.index(NO_GOAL) :] for it in own if NO_GOAL in it)
-        return REFUSED, f"{edit.function.name}: {goal.split('; it calls')[0]}"
+        return REFUSED, f"{function.name}: {goal.split('; it calls')[0]}"
     for line in check.lines():
         goal, error = GOAL.match(line), ERROR.match(line)
-        if goal and goal[1] == edit.function.file and int(goal[2]) in edit.function.lines:
+        if goal and goal[1] == function.file and int(goal[2]) in function.lines:
             return REFUSED, line[:160]
-        if error and ": error: " in line and edit.function.has_proof(error[1]) and not NAMES.search(error[3]):
+        if error and ": error: " in line and function.has_proof(error[1]) and not NAMES.search(error[3]):
             return REFUSED, line[:160]
     return None
 
@@ -298,7 +304,8 @@ class Trial:
 
     def __init__(self, crate, edits, is_whole, reports):
         self.crate, self.edits, self.is_whole, self.reports = crate, edits, is_whole, reports
-        self.verdicts = []
+        # Where the checks keep what they proved.
+        self.room, self.verdicts = None, []
 
     def settle(self, edit, kind, why):
         self.verdicts.append(kind)
@@ -332,25 +339,35 @@ class Trial:
         whole = [it for it in self.edits if not it.fault]
         bodies, alone = [it for it in whole if it.function], [it for it in whole if not it.function]
         while bodies:
-            group, bodies = self.group(bodies)
-            alone += self.together(group)
+            own, copied, bodies = self.group(bodies)
+            alone += self.together([*own, *copied])
         for edit in alone:
             self.alone(edit)
 
     def group(self, edits):
-        """One edit for each function, and the others."""
-        group, others = [], []
+        """What one check can try: edits in their own functions, edits in copies of these; and the others."""
+        own, copied, others = [], [], []
         for edit in edits:
-            is_free = all(it.function != edit.function for it in group)
-            fits = is_free and changed([*group, edit], self.crate.folder) is not None
-            (group if fits else others).append(edit)
-        return group, others
+            is_free = all(it.function != edit.function for it in own)
+            if is_free and changed([*own, edit], self.crate.folder) is not None:
+                own.append(edit)
+            else:
+                (copied if parts_of(self.crate.folder, edit.function) else others).append(edit)
+        return own, copied, others
+
+    def place(self, edits):
+        """The texts of a check of several edits, and by their names the function that each of them changes there."""
+        own, copied, _ = self.group(edits)
+        texts = changed(own, self.crate.folder)
+        functions, copies = {it.name: it.function for it in own}, Copies(self.crate.name, self.crate.folder, texts)
+        functions.update({it.name: copies.add(it.function, it.texts[it.function.file]) for it in copied})
+        return texts, functions
 
     def check(self, texts, functions):
         """Checks the crate with these texts: these functions alone, by the ends of their names, if there are any. The others
         have no bodies then: those that these call would be checked too."""
         only = [it for function in functions for it in ("--only", function)]
-        words = ["--incremental", self.room, *only]
+        words = [*(["--incremental", self.room] if self.room else []), *only]
         is_kept = self.keeps(functions)
         check = self.crate.check(texts, words, is_kept)
         # Most likely for want of memory.
@@ -369,27 +386,44 @@ class Trial:
         """Tries several edits in one check. Answers those of which it says nothing."""
         check, undecided = None, []
         while group:
-            check = self.check(changed(group, self.crate.folder), [it.function.query() for it in group])
+            texts, functions = self.place(group)
+            queries = {name: it.query() for name, it in functions.items()}
+            check = self.check(texts, queries.values())
             unknown = re.findall(UNKNOWN, check.said) if check.status == 2 else []
-            strange = [it for it in group if it.function.query() in unknown]
+            strange = [it for it in group if queries[it.name] in unknown]
             if not strange:
                 break
-            for edit in strange:
+            for edit in (it for it in strange if functions[it.name] == it.function):
                 edit.function, edit.refused = None, []
-            group = [it for it in group if it.function]
+            group = [it for it in group if it not in strange]
             undecided += strange
         if len(group) > 1 and not re.search(r"^fn ", check.said, re.M):
             # One of them, most likely, does not reach the prover.
             half = len(group) // 2
             return undecided + self.together(group[:half]) + self.together(group[half:])
         for edit in group:
-            edit.seconds = sum(took for path, took in check.seconds.items() if edit.function.is_named(path))
-            verdict = verdict_on(edit, check)
+            function = functions[edit.name]
+            edit.seconds = sum(took for path, took in check.seconds.items() if function.is_named(path))
+            verdict = verdict_on(function, check)
             if verdict is None:
                 undecided.append(edit)
             else:
                 self.settle(edit, *verdict)
         return undecided
+
+    def unchanged(self):
+        """What a check says of copies with no wrong body, one of each function that needs copies: its name, whether it is
+        proved, and the processor time of that."""
+        _, copied, _ = self.group([it for it in self.edits if it.function])
+        functions, texts = sorted({it.function for it in copied}, key=lambda it: (it.file, it.lines.start)), {}
+        copies = Copies(self.crate.name, self.crate.folder, texts)
+        made = [copies.add(it, (self.crate.folder / it.file).read_text()) for it in functions]
+        if not made:
+            return []
+        check = self.check(texts, [it.query() for it in made])
+        proved = [found[1] for it in check.lines() if (found := re.match(r"fn (\S+): proved", it))]
+        seconds = [sum(took for path, took in check.seconds.items() if it.is_named(path)) for it in made]
+        return [(it.name, any(map(it.is_named, proved)), took) for it, took in zip(made, seconds)]
 
     def alone(self, edit):
         """Tries one edit. What is no body may matter anywhere in the crate."""
@@ -521,6 +555,17 @@ def try_all(trials, proofs):
     print(f"{sum(it.crate.seconds for it in trials):8.0f}  {sum(len(it.edits) for it in trials):4}  in all")
 
 
+def try_copies(trials):
+    """Checks copies with no wrong body, one crate after the other. Answers whether each is proved."""
+    verdicts = []
+    for trial in trials:
+        for name, is_proved, seconds in trial.unchanged():
+            verdicts.append(is_proved)
+            said = "proved, as it must be" if is_proved else "NOT PROVED"
+            print(f"{trial.crate.name} {name}: {said} ({seconds:.0f} s)", flush=True)
+    return verdicts
+
+
 def main(words):
     if words[:1] in (["--help"], ["-h"]):
         print(__doc__)
@@ -530,6 +575,7 @@ def main(words):
         folders, kept, words = [Path(words[1]).resolve()], False, words[2:]
         if words[:1] == ["--beside"] and len(words) > 2:
             proofs, words = Proofs(*words[1:3]), words[3:]
+    of_copies, words = words[:1] == ["--copies"], words[words[:1] == ["--copies"] :]
     crates = {it.name: it for it in all_crates(folders, kept) if any((it.folder / "must-fail").glob("*.edit"))}
     unknown = [it for it in words if it.startswith("-") or it.split("/")[0] not in crates]
     if unknown:
@@ -541,9 +587,14 @@ def main(words):
         edits = [it for it in crate.edits() if is_whole or f"{crate.name}/{it.name}" in words]
         if edits:
             trials.append(Trial(crate, edits, is_whole, reports))
-    try_all(trials, proofs)
-    print(f"{reports.counts[REFUSED]} passed, {reports.failed()} failed")
-    return 1 if reports.failed() else 0
+    if of_copies:
+        verdicts = try_copies(trials)
+        passed, failed = verdicts.count(True), verdicts.count(False)
+    else:
+        try_all(trials, proofs)
+        passed, failed = reports.counts[REFUSED], reports.failed()
+    print(f"{passed} passed, {failed} failed")
+    return 1 if failed else 0
 
 
 if __name__ == "__main__":
