@@ -123,6 +123,22 @@ def processor_seconds(site):
         return sum(map(int, stat.read().rpartition(")")[2].split()[11:13])) / os.sysconf("SC_CLK_TCK")
 
 
+def all_sleep(site):
+    """Whether all threads of a site sleep at each of fifty looks."""
+    for _ in range(50):
+        if set(states_of_threads(site)) != {"S"}:
+            return False
+        time.sleep(0.01)
+    return True
+
+
+def states_of_threads(site):
+    folder = f"/proc/{site.process.pid}/task"
+    for thread in os.listdir(folder):
+        with open(f"{folder}/{thread}/stat") as stat:
+            yield stat.read().rpartition(")")[2].split()[0]
+
+
 def sees(site, peer, **values):
     """Whether the site's status says these values, of a peer where one is named."""
 

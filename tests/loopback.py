@@ -12,7 +12,7 @@ from contextlib import ExitStack, suppress
 
 from cases import case
 from cluster import PATIENCE, PROGRAM, Cluster, Proxy, Site, SiteEnded, at, expect, free_ports, reset_at_its_end
-from cluster import sees, wait_for
+from cluster import all_sleep, sees, wait_for
 from site_driver import Peer
 
 import rights_site
@@ -800,22 +800,6 @@ def threads_of_idle_sites_sleep():
         wait_for("site 2 caught up", lambda: sites[1].ask("tick 1") and sees(sites[2], 1, applied=5000)())
         for number in (1, 2):
             wait_for(f"the threads of site {number} sleep", lambda: all_sleep(sites[number]))
-
-
-def all_sleep(site):
-    """Whether all threads of a site sleep at each of fifty looks."""
-    for _ in range(50):
-        if set(states_of_threads(site)) != {"S"}:
-            return False
-        time.sleep(0.01)
-    return True
-
-
-def states_of_threads(site):
-    folder = f"/proc/{site.process.pid}/task"
-    for thread in os.listdir(folder):
-        with open(f"{folder}/{thread}/stat") as stat:
-            yield stat.read().rpartition(")")[2].split()[0]
 
 
 CASES = [case("Loopback", [

@@ -12,6 +12,7 @@ import os
 import subprocess
 import sys
 import time
+import traceback
 import unittest
 
 HERE = os.path.dirname(os.path.abspath(__file__))
@@ -56,11 +57,11 @@ class Results(unittest.TestResult):
 
     def addFailure(self, test, error):
         super().addFailure(test, error)
-        self.say(test, f"FAILED: {error[1]}")
+        self.say(test, f"FAILED: {error[1]}{where(error)}")
 
     def addError(self, test, error):
         super().addError(test, error)
-        self.say(test, f"FAILED: {error[0].__name__}: {error[1]}")
+        self.say(test, f"FAILED: {error[0].__name__}: {error[1]}{where(error)}")
 
     def addSkip(self, test, reason):
         super().addSkip(test, reason)
@@ -70,6 +71,13 @@ class Results(unittest.TestResult):
 def name_of(test):
     """The name of a test, without the module and the method's `test_`."""
     return ".".join(test.id().split(".")[-2:]).replace(".test_", ".")
+
+
+def where(error):
+    """The lines of the tests by which it came to an error, the last ones: ` (at web_limits.py:110, web_driver.py:82)`."""
+    frames = [frame for frame in traceback.extract_tb(error[2]) if os.path.dirname(frame.filename) == HERE]
+    places = [f"{os.path.basename(frame.filename)}:{frame.lineno}" for frame in frames]
+    return f" (at {', '.join(places[-3:])})" if places else ""
 
 
 class Runner:

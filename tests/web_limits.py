@@ -10,7 +10,7 @@ import threading
 import time
 from contextlib import ExitStack, suppress
 
-from cluster import expect, wait_for
+from cluster import all_sleep, expect, wait_for
 from timing import TimedSite
 from web_driver import Client, alone, expect_served, in_threads, post, request, seats
 from web_requests import LONGEST_BODY, MOST_CLIENTS, pid_of, suppressed_send, threads_of
@@ -102,7 +102,10 @@ def the_longest_idle_connection_ends_first():
     """.. with an answer that says that nothing was carried out; requests that are being sent go on."""
     with alone() as sites, ExitStack() as stack:
         idle = [stack.enter_context(sites.client()) for _ in range(MOST_CLIENTS - 1)]
-        for number, client in enumerate(idle, 1):
+        expect(idle[0].command("issue 1"), (200, ["number 1"]))
+        # Its thread notes since when it is idle some time after its answer, which may be after the next client's.
+        wait_for("the first is idle", lambda: all_sleep(sites[1]), PATIENCE)
+        for number, client in enumerate(idle[1:], 2):
             expect(client.command("issue 1"), (200, [f"number {number}"]))
         begun, since = stack.enter_context(sites.client()), time.monotonic()
         whole = post("issue 1")
