@@ -214,6 +214,21 @@ def send_all(stream, data):
         stream.sendall(data)
 
 
+def what_comes_at_the_end_is_durable_before_it_is_reported():
+    """A peer sends as fast as it can while the site ends: the report tells of no entry that is not durable."""
+    entries = b"H 2\nE 2 0 1 I:100000\n" + b"".join(b"E 2 %d %d R:1:1\n" % (n, n + 1) for n in range(1, 100_000))
+    for _ in range(3):
+        with Recorded(2, started=[1], settings={"DISK_SLOW": 2}) as sites:
+            with socket.create_connection(("127.0.0.1", sites.ports[0])) as stream:
+                thread = threading.Thread(target=send_all, args=(stream, entries))
+                thread.start()
+                wait_for("some are applied", lambda: sites[1].status()["received"] > 0)
+                sites[1].end()
+                thread.join(PATIENCE)
+            _, before, calls = sites.last_calls()
+            expect(fault_of_calls(calls, before), None)
+
+
 # ---- images of a power cut
 
 
@@ -632,6 +647,7 @@ CASES = [
     case("PowerCuts", [
         nothing_is_told_before_its_sync, a_sync_that_is_left_out_is_found, one_sync_serves_all_that_wait,
         no_port_is_open_before_the_journal_is_read, entries_that_come_faster_than_a_disk_is,
+        what_comes_at_the_end_is_durable_before_it_is_reported,
         a_power_cut_loses_nothing_that_was_told, power_cuts_while_a_peer_hears, kills_at_each_call, syncs_that_fail,
         writes_that_fail, faults_at_the_start, a_failure_while_nobody_waits, a_failure_at_the_end,
         a_failure_beneath_clients_that_wait, a_file_that_may_not_grow, a_disk_that_is_full,

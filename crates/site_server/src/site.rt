@@ -332,19 +332,43 @@ fn stop_site<D: DeskNames, R: Wait + AllocGlobal>(
     }
 }
 
-/// Answers the commands while the threads of the site run.
+/// Answers the commands while the threads of the site run. The thread that appends ends after all others: what they do at
+/// the end is to be durable too, before the desk reports it.
 fn run_threads<D: DeskNames + Send + Sync, R: SiteRuntime, I: Read + Drop, W: Write + Drop>(
     rt: &R,
     config: &Config,
     site: &SiteSockets,
     seats: &Arc<Seats<D>>,
     begun: Begun<D>,
+    reader: I,
+    writer: W,
+) -> Result<(), ConversationError> {
+    let Begun { links, keeper } = begun;
+    thread::scope(thread::scope_env(), rt, |scope| {
+        let links = if begin_keeper(scope, rt, site, keeper) {
+            Some(links)
+        } else {
+            None
+        };
+        let ended = run_others(rt, config, site, seats, links, reader, writer);
+        end_journal(rt, site);
+        ended
+    })
+}
+
+/// Answers the commands while the other threads of the site run. `None` is passed if one could not be started.
+fn run_others<D: DeskNames + Send + Sync, R: SiteRuntime, I: Read + Drop, W: Write + Drop>(
+    rt: &R,
+    config: &Config,
+    site: &SiteSockets,
+    seats: &Arc<Seats<D>>,
+    links: Option<Vec<PeerLink<D>>>,
     mut reader: I,
     writer: W,
 ) -> Result<(), ConversationError> {
     let mut writer = ExitWriter::new(rt, site.durability(), writer);
     thread::scope(thread::scope_env(), rt, |scope| {
-        let ended = if begin_all(scope, rt, config, site, seats, begun) {
+        let ended = if begin_all(scope, rt, config, site, seats, links) {
             answer_commands(rt, site, seats, &mut reader, &mut writer)
         } else {
             say_no_thread(rt, site);
@@ -355,7 +379,6 @@ fn run_threads<D: DeskNames + Send + Sync, R: SiteRuntime, I: Read + Drop, W: Wr
             tick_last(rt, site, seats);
         }
         site.shut_down(rt);
-        end_journal(rt, site);
         ended
     })
 }
@@ -388,18 +411,19 @@ fn answer_commands<D: DeskNames, R: Wait + Clock + AllocGlobal, I: Read, W: Writ
     }
 }
 
-/// Starts all threads except that of the commands. `false` if one could not be started.
+/// Starts all threads except that of the commands and that which appends. `false` if one could not be started.
 fn begin_all<'s, E, D: DeskNames + Send + Sync + 's, R: SiteRuntime>(
     scope: &Scope<'s, E>,
     rt: &'s R,
     config: &'s Config,
     site: &'s SiteSockets,
     seats: &Arc<Seats<D>>,
-    begun: Begun<D>,
+    links: Option<Vec<PeerLink<D>>>,
 ) -> bool {
-    let Begun { links, keeper } = begun;
-    let mut has_all = begin_keeper(scope, rt, site, keeper);
-    has_all &= begin_acceptors(scope, rt, config, site);
+    let Some(links) = links else {
+        return false;
+    };
+    let mut has_all = begin_acceptors(scope, rt, config, site);
     has_all &= begin_clients(scope, rt, site, seats);
     has_all &= begin_ticks(scope, rt, site, config.tick(), seats);
     for link in links {
