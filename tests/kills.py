@@ -39,11 +39,18 @@ SECONDS = 2.5
 
 
 class RoughLink(Proxy):
-    """Passes lines on, or loses them, or ends the connection, within a line too; each after some time."""
+    """Passes lines on, or loses them, or ends the connection, within a line too; each after some time. What a connection
+    still had is lost once there is a newer one, as it would be where a site itself hears of both."""
 
     def __init__(self, target, run, chance):
-        self.run, self.chance = run, chance
+        self.run, self.chance, self.newest = run, chance, None
         super().__init__(target)
+
+    def accept(self):
+        with suppress(OSError):
+            while True:
+                self.newest, _ = self.server.accept()
+                threading.Thread(target=self.carry, args=(self.newest,), daemon=True).start()
 
     def carry(self, stream):
         host, port = self.target.split(":")
@@ -52,11 +59,13 @@ class RoughLink(Proxy):
             for line in stream.makefile("rb"):
                 self.run.see(line)
                 fate = self.chance.random() if self.run.is_rough else 1
+                if fate < 0.04:
+                    time.sleep(self.chance.random() * 0.05)
+                if self.newest is not stream:
+                    return
                 if fate < 0.01:
                     out.sendall(line[: self.chance.randrange(len(line))])
                     return
-                if fate < 0.04:
-                    time.sleep(self.chance.random() * 0.05)
                 if fate > 0.08 or line.startswith(b"H"):
                     out.sendall(line)
 
