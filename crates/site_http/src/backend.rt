@@ -39,6 +39,9 @@ pub trait Backend {
     // Whether the site has closed.
     ghost closed: { Self → Bool → Type 0 };
 
+    /// The lines of a request that has no key are about to be answered.
+    fn begin(&self);
+
     /// Answers a line like one on standard input, except that no line ends a connection: `quit` is `error BadCommand`.
     /// With a key, the line is the command of this key. If the client waits, the reply to a spend is its outcome, for
     /// which this call waits, and not `queued T`. The line is given without its line feed; `None` stands for a line of

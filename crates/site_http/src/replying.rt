@@ -63,6 +63,7 @@ fn answer_unkeyed<C: Backend>(
         × RepliesToBody C.answers RequestKey.Absent waits client.old (lines_of body.now) result told client.new
         × (out.new.items ≡ text_of told) }
 {
+    client.begin();
     match only_line(body) {
         Some(text) => answer_one(client, None, waits, text, replies, out),
         None => {

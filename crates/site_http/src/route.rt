@@ -137,7 +137,7 @@ fn is_foreign(request: &Request<Bytes>) -> bool
 fn names_origin(request: &Request<Bytes>) -> bool
     ensures { IsTrue result ↔ ContainsKey (head_of request.now).headers (codes "origin") }
 {
-    request.headers().contains_key(header::ORIGIN)
+    has_field(request, "origin")
 }
 
 /// The field in which a browser says from which site a request comes.

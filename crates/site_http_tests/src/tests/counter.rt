@@ -160,6 +160,8 @@ impl Backend for Counter {
 
     ghost closed = { λ client is_closed. ⊤ };
 
+    fn begin(&self) {}
+
     fn reply(
         &mut self,
         key: Option<Key>,

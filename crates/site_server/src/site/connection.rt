@@ -212,7 +212,7 @@ impl<D: DeskNames, R: Wait, P: Peers + Drop, B: TickSignal + Drop> SiteClient<'_
         ensures err { OnErr result (self.new ≡ self.old) }
     {
         if key.is_none() && !waits {
-            let time = self.signal.time();
+            let time = self.signal.line_time();
             return self.tell_line(text, time, replies);
         }
         self.tell_asked(key, waits, text, replies)
@@ -279,6 +279,10 @@ impl<D: DeskNames, R: Wait, P: Peers + Drop, B: TickSignal + Drop> Backend
         let answered = self.tell_request(key, waits, text, replies)?;
         self.count(answered);
         Ok(answered)
+    }
+
+    fn begin(&self) {
+        self.signal.begin();
     }
 
     fn has_room(&self, len: usize) -> bool {

@@ -3,6 +3,7 @@ ghost use Rattle.std.specs.Prelude.{◌≡◌, ℕ, Option};
 
 use crate::site::site_time::own_time;
 use site_sockets::{NextTick, SiteClock, SiteSockets, TickNotifier};
+use std::cell::Cell;
 use std::net::TcpStream;
 use std::sync::Wait;
 use std::time::{Clock, Duration};
@@ -10,6 +11,10 @@ use timed_streams::has_left;
 
 /// How many milliseconds a thread waits for a tick before it looks whether its client is still there.
 const LOOK_MILLISECONDS: u64 = 200;
+
+/// For how many lines of a request at most the clock is read once: they are carried out within microseconds, and to read it
+/// for each would be a twentieth of what a spend costs.
+const LINES: u32 = 32;
 
 /// What ends a wait for a tick.
 #[derive(Clone, Copy, Debug, PartialEq, Eq)]
@@ -38,6 +43,13 @@ pub(crate) trait TickSignal {
     fn time(&self) -> Option<u64>
         ensures { shows self.now result };
 
+    /// A request begins: the clock is read for its first lines.
+    fn begin(&self);
+
+    /// What the clock showed for this line of the request or for one of the lines right before it.
+    fn line_time(&self) -> Option<u64>
+        ensures { shows self.now result };
+
     /// How many ticks were done; passed to `next`.
     fn count(&self) -> u64;
 
@@ -59,6 +71,9 @@ pub(crate) struct SiteTickSignal<'a, R: Wait + Clock> {
     clock: Option<&'a SiteClock>,
     /// The client's connection. A client without one never leaves.
     stream: Option<&'a TcpStream>,
+    /// What the clock showed last, and for how many lines more that counts.
+    read: Cell<Option<u64>>,
+    lines: Cell<u32>,
 }
 
 impl<'a, R: Wait + Clock> SiteTickSignal<'a, R> {
@@ -72,6 +87,8 @@ impl<'a, R: Wait + Clock> SiteTickSignal<'a, R> {
             tick_notifier: &site.tick_notifier,
             clock: site.clock.as_ref(),
             stream,
+            read: Cell::new(None),
+            lines: Cell::new(0),
         }
     }
 
@@ -94,6 +111,21 @@ impl<R: Wait + Clock> TickSignal for SiteTickSignal<'_, R> {
     fn time(&self) -> Option<u64> {
         let time = own_time(self.rt, self.clock?);
         Some(time.now)
+    }
+
+    fn begin(&self) {
+        self.read.set(self.time());
+        self.lines.set(LINES);
+    }
+
+    fn line_time(&self) -> Option<u64> {
+        let lines = self.lines.get();
+        if lines == 0 {
+            self.begin();
+        } else {
+            self.lines.set(lines - 1);
+        }
+        self.read.get()
     }
 
     fn count(&self) -> u64 {
