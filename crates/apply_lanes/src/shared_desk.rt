@@ -11,11 +11,17 @@ use crate::kept::{AdmitError, Kept};
 use crate::names::{Blanks, DeskNames};
 use crate::seat::{Seat, SeatsFull};
 use command_keys::KeyBook;
+use crossbeam_utils::Backoff;
 use rights_types::SiteId;
 use site_core::Desk;
 use std::alloc::{Allocator, Global};
 use std::sync::{Mutex, MutexGuard, Wait};
 use thread_parts::Outlet;
+
+/// How often a thread tries to take the lock of a desk before it sleeps: some microseconds with pauses that double, and then
+/// it lets other threads run in between. A desk is held for less time than a thread takes to sleep and to be woken, and once
+/// one sleeps on a lock that others take all the time, soon all do.
+const TRIES: u32 = 24;
 
 /// A desk that threads share, each with a seat or an applier of its own.
 #[derive(Drop)]
@@ -47,6 +53,13 @@ impl<D: DeskNames, A: Allocator + Copy> SharedDesk<D, A> {
 
     /// Waits until no other thread holds the desk, and holds it until the guard is dropped.
     pub fn lock<'a, R: Wait>(&'a self, rt: &R) -> MutexGuard<'a, Kept<D, A>> {
+        let backoff = Backoff::new();
+        for _ in 0..TRIES {
+            if let Some(kept) = self.lock.try_lock() {
+                return kept;
+            }
+            backoff.snooze();
+        }
         self.lock.lock(rt)
     }
 

@@ -7,7 +7,9 @@ ghost use Rattle.durability.specs.Holds.{Waited, Notes, Begins, Raises, Fails, E
 use crate::counts::{Counts, Course, Next, Progress};
 use histories::History;
 use std::marker::Model;
+use std::sync::atomic::{AtomicBool, AtomicU32, AtomicU64, Ordering};
 use std::sync::{Condvar, CondvarTimeouts, Mutex, MutexGuard, Wait};
+use std::thread;
 use std::time::{Clock, Duration};
 
 /// After how many milliseconds records are appended for which no exit waits.
@@ -16,10 +18,34 @@ const PAUSE_MILLISECONDS: u64 = 20;
 /// After how many pauses without a record the thread that appends waits for the next one, for as long as that takes.
 const IDLE_PAUSES: u64 = 50;
 
+/// How often the thread that appends looks for an exit that waits before it sleeps, some 50 microseconds in all: a client
+/// that has its reply mostly sends its next command by then, and to wake this thread would take it longer.
+const LOOKS: u32 = 150;
+
+/// How often an exit looks for its records to be durable before it sleeps, some 200 microseconds in all: a fast disk takes no
+/// longer for a sync.
+const EXIT_LOOKS: u32 = 600;
+
+/// How many exits look at most, of those that wait at one time.
+const FEW: u32 = 2;
+
+/// How many exits at most sleep at once after one looked in vain.
+const LONGEST_REST: u32 = 63;
+
 /// How many records of the journal were made and how many of them are durable, for the threads of a site.
 #[derive(Drop)]
 pub struct Durability {
     counts: Mutex<Counts>,
+    /// Whether an exit waits since the thread that appends looked last, for a look without the lock, here and below. It may
+    /// be out of date: the counts decide.
+    is_asked: AtomicBool,
+    /// How many records are durable.
+    raised_to: AtomicU64,
+    /// How many exits wait.
+    waiting: AtomicU32,
+    /// How many exits slept at once after one looked in vain, and how many of the next ones will.
+    rest: AtomicU32,
+    resting: AtomicU32,
     /// Notified when an exit waits, and of the end.
     asked: Condvar,
     /// Notified when records became durable, and once no more will.
@@ -45,6 +71,11 @@ impl Durability {
     pub fn new() -> Durability {
         Durability {
             counts: Mutex::new(Counts::new(0, 0, 0)),
+            is_asked: AtomicBool::new(false),
+            raised_to: AtomicU64::new(0),
+            waiting: AtomicU32::new(0),
+            rest: AtomicU32::new(0),
+            resting: AtomicU32::new(0),
             asked: Condvar::new(),
             raised: Condvar::new(),
         }
@@ -81,6 +112,7 @@ impl Durability {
         let begun = waits.and(&held);
         let mark = held.ask();
         if held.is_awaited(mark) {
+            self.is_asked.store(true, Ordering::Relaxed);
             self.asked.notify_one();
             held = self.await_mark(rt, held, mark);
         }
@@ -90,11 +122,54 @@ impl Durability {
 
     /// Waits until the records up to this mark are durable, or will not be.
     fn await_mark<'a, R: Wait>(&'a self, rt: &R, held: Held<'a>, mark: u64) -> Held<'a> {
-        Held {
-            counts: self
-                .raised
-                .wait_while(rt, held.counts, |counts| counts.is_awaited(mark)),
+        let others = self.waiting.fetch_add(1, Ordering::Relaxed);
+        let mut counts = held.counts;
+        if others < FEW && self.may_look() {
+            drop(counts);
+            self.look_for(mark);
+            counts = self.counts.lock(rt);
         }
+        let counts = self
+            .raised
+            .wait_while(rt, counts, |counts| counts.is_awaited(mark));
+        self.waiting.fetch_sub(1, Ordering::Relaxed);
+        Held { counts }
+    }
+
+    /// Whether the next exit looks before it sleeps.
+    fn may_look(&self) -> bool {
+        let resting = self.resting.load(Ordering::Relaxed);
+        if resting > 0 {
+            self.resting.store(resting - 1, Ordering::Relaxed);
+        }
+        resting == 0
+    }
+
+    /// Looks for so many durable records, and lets other threads run after each look. Each time that this is in vain, twice
+    /// as many exits sleep at once.
+    fn look_for(&self, mark: u64) {
+        for _ in 0..EXIT_LOOKS {
+            if self.raised_to.load(Ordering::Relaxed) >= mark {
+                self.rest.store(0, Ordering::Relaxed);
+                return;
+            }
+            thread::yield_now();
+        }
+        let longer = self.rest.load(Ordering::Relaxed).saturating_mul(2);
+        let rest = longer.saturating_add(1).min(LONGEST_REST);
+        self.rest.store(rest, Ordering::Relaxed);
+        self.resting.store(rest, Ordering::Relaxed);
+    }
+
+    /// Looks for an exit that waits, and lets other threads run after each look.
+    fn look(&self) {
+        for _ in 0..LOOKS {
+            if self.is_asked.load(Ordering::Relaxed) {
+                break;
+            }
+            thread::yield_now();
+        }
+        self.is_asked.store(false, Ordering::Relaxed);
     }
 
     /// Waits until the thread that appends has something to do, or a pause is over.
@@ -111,6 +186,7 @@ impl Durability {
     fn await_next<'a, R: Wait + Clock>(&'a self, rt: &R) -> (Held<'a>, Next)
         ensures { next_of true result.0 ≡ Some result.1 }
     {
+        self.look();
         for _ in rt.forever() {
             for _ in 0..IDLE_PAUSES {
                 let held = self.await_work(rt);
@@ -323,6 +399,7 @@ impl<'a> Raiser<'a> {
         held.raise(durable, bytes, time);
         self.holds = begun.and(&held);
         drop(held);
+        self.durability.raised_to.store(durable, Ordering::Relaxed);
         self.durability.raised.notify_all();
     }
 
