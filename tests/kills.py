@@ -43,14 +43,8 @@ class RoughLink(Proxy):
     still had is lost once there is a newer one, as it would be where a site itself hears of both."""
 
     def __init__(self, target, run, chance):
-        self.run, self.chance, self.newest = run, chance, None
+        self.run, self.chance = run, chance
         super().__init__(target)
-
-    def accept(self):
-        with suppress(OSError):
-            while True:
-                self.newest, _ = self.server.accept()
-                threading.Thread(target=self.carry, args=(self.newest,), daemon=True).start()
 
     def carry(self, stream):
         host, port = self.target.split(":")

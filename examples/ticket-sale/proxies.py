@@ -87,8 +87,8 @@ class Proxy:
         # Once the listener is closed, it accepts no further connection.
         with suppress(OSError):
             while True:
-                stream, _ = self.server.accept()
-                threading.Thread(target=self.carry, args=(stream,), daemon=True).start()
+                self.newest, _ = self.server.accept()
+                threading.Thread(target=self.carry, args=(self.newest,), daemon=True).start()
 
     def carry(self, stream):
         host, port = self.target.split(":")

@@ -12,8 +12,8 @@ use timed_streams::has_left;
 /// How many milliseconds a thread waits for a tick before it looks whether its client is still there.
 const LOOK_MILLISECONDS: u64 = 200;
 
-/// For how many lines of a request at most the clock is read once: they are carried out within microseconds, and to read it
-/// for each would be a twentieth of what a spend costs.
+/// For how many lines more at most a reading of the clock counts: they are carried out within microseconds, and to read it for
+/// each would be a twentieth of what a spend costs.
 const LINES: u32 = 32;
 
 /// What ends a wait for a tick.
