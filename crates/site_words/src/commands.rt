@@ -1,13 +1,15 @@
 //! The commands of a running site.
-ghost use Rattle.std.specs.Prelude.{◌≡◌, ◌∷◌, bytes_eq};
-ghost use Rattle.line_streams.specs.Words.{words_left, named, names_of};
+ghost use Rattle.std.specs.Prelude.{◌≡◌, ◌∷◌};
+ghost use Rattle.line_streams.specs.Words.{words_left};
 ghost use Rattle.site_words.specs.Commands.{issue_in, give_in, spend_in, take_in, ahead_of, deadline_of, deadline_in};
 ghost use Rattle.site_words.specs.Commands.{latest_at, outcome_in, cancel_in, tick_by, close_in, command_by, name_of};
 ghost use Rattle.site_words.specs.Commands.{command_of, command_left, command_with, keyed, keyed_in, may_have_key, under_key};
 
 use command_keys::Key;
 use entry_codec::read_decimal;
-use line_streams::{alone, first_number, only_number, optional_site, site_and_number, split_word};
+use line_streams::{
+    alone, first_number, named, only_number, optional_site, site_and_number, split_word,
+};
 use rights_types::SiteId;
 
 /// How far ahead of a site's own clock a deadline may be, in milliseconds: a day.
@@ -244,40 +246,12 @@ fn command_by(name: Name, words: Option<&[u8]>, time: Option<u64>) -> Option<Bar
     }
 }
 
-/// Whether two words are the same. They are short: that takes less time byte by byte than as slices, which are compared in
-/// groups of bytes.
-fn is_same(one: &[u8], other: &[u8]) -> bool
-    ensures { result ≡ bytes_eq one.now other.now }
-{
-    let (mut left, mut others) = (one, other);
-    'bytes: while let ([a, more @ ..], [b, rest @ ..]) = (left, others) {
-        if *a != *b {
-            return false;
-        }
-        left = more;
-        others = rest;
-    }
-    left.is_empty() && others.is_empty()
-}
-
-/// What a word stands for, looked up in a table, as `named` of line_streams looks texts up that may be longer.
-fn meaning_of<X: Copy>(table: &[(&[u8], X)], word: &[u8]) -> Option<X>
-    ensures { result ≡ named (names_of table.now) word.now }
-{
-    for (name, meaning) in table {
-        if is_same(word, name) {
-            return Some(*meaning);
-        }
-    }
-    None
-}
-
 #[tactic(auto, unfolding(crate::specs::Commands::name_of))]
 #[inline(always)]
 fn name_of(text: &[u8]) -> Option<Name>
     ensures { result ≡ name_of text.now }
 {
-    meaning_of(&NAMES, text)
+    named(&NAMES, text)
 }
 
 /// The command with no key that these words spell: the first one, and those after it.

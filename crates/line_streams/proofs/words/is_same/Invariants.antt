@@ -1,5 +1,5 @@
 use Rattle.std.proofs.Common.{◌≡◌, bytes_eq, length}
-use Rattle.site_words.proofs.commands.is_same.Given as goal
+use Rattle.line_streams.proofs.words.is_same.Given as goal
 
 -- what is left decides
 abbrev pub invariant-bytes : goal.invariant-bytes
